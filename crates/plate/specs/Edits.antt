@@ -1,0 +1,69 @@
+-- What opening a plate and each edit answer, and what they write. Assumes nothing.
+use mathlib.Core.Path.{_≡_}
+use mathlib.Core.Bool.{Bool, true, false, _||_}
+use mathlib.Core.List.{List, _++_}
+use Prim.Native.Nat.{ℕ, _*_}
+use lib.Dec.{eqb, ltb}
+use lib.ListN.{length, drop, replicate}
+use Rattle.std.specs.Results.{Cases}
+use Rattle.std.specs.declared.option.Option.{Option}
+use Rattle.std.specs.declared.option.Option.the-variants.{Some, None}
+use Rattle.std.specs.declared.result.Result.{Result}
+use Rattle.board.specs.Refusals.{refuse}
+use Rattle.board.specs.Sizes.{Sized, area, off, size-refusal}
+use Rattle.board.specs.declared.cell.Cell.{Cell}
+use Rattle.board.specs.declared.refusal.Refusal.{Refusal}
+use Rattle.board.specs.declared.refusal.Refusal.the-variants as refusal
+use Rattle.plate.specs.declared.header.Draft.{Draft}
+
+-- an open cell of height 0 with no pad
+abbrev pub bare-cell : Cell
+bare-cell = record { height = 0; pad = 0; barred = false }
+
+abbrev pub barred-cell : Cell
+barred-cell = record { height = 0; pad = 0; barred = true }
+
+-- sizes first, then tables that are too short
+abbrev pub open-refusal : ℕ → ℕ → List Cell → List ℕ → Option Refusal
+open-refusal rows columns cells groups =
+    elim (size-refusal rows columns) [
+      | Some e ↦ Some e
+      | None ↦ refuse (ltb (length cells) (rows * columns) || ltb (length groups) 64) refusal.Tables None
+    ]
+
+-- a draft of this size with no map measured
+pub record Fresh (rows columns : ℕ) (d : Draft) : Type 0 where
+  pub size : Sized (d .header .size) rows columns
+  pub first : d .header .first ≡ false
+  pub second : d .header .second ≡ false
+
+-- what opening answers
+abbrev pub Opened : ℕ → ℕ → Option Refusal → Result Draft Refusal → Type 0
+Opened rows columns refused r = Cases r (λ d. (refused ≡ None) × Fresh rows columns d) (λ e. refused ≡ Some e)
+
+abbrev pub cells-opened : ℕ → ℕ → List Cell → List Cell
+cells-opened rows columns cells = replicate (rows * columns) bare-cell ++ drop (rows * columns) cells
+
+abbrev pub groups-opened : List ℕ → List ℕ
+groups-opened groups = replicate 64 0 ++ drop 64 groups
+
+-- both maps are outdated
+abbrev pub outdated : Draft → Draft
+outdated d = record { header = record { size = d .header .size; first = false; second = false } }
+
+abbrev pub set-refusal : Draft → List Cell → ℕ → ℕ → ℕ → Option Refusal
+set-refusal d cells row column pad =
+    refuse (ltb (length cells) (area (d .header .size))) refusal.Tables
+    (refuse (off (d .header .size) row column) refusal.Off
+    (refuse (ltb 64 pad) refusal.Pad None))
+
+abbrev pub bar-refusal : Draft → List Cell → ℕ → ℕ → Option Refusal
+bar-refusal d cells row column =
+    refuse (ltb (length cells) (area (d .header .size))) refusal.Tables
+    (refuse (off (d .header .size) row column) refusal.Off None)
+
+abbrev pub enrol-refusal : List ℕ → ℕ → ℕ → Option Refusal
+enrol-refusal groups pad group =
+    refuse (ltb (length groups) 64) refusal.Tables
+    (refuse (eqb pad 0 || ltb 64 pad) refusal.Pad
+    (refuse (ltb 2 group) refusal.Group None))

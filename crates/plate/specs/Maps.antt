@@ -1,0 +1,44 @@
+-- When measuring and the gap are sent back, and what measuring leaves alone. Assumes nothing.
+use mathlib.Core.Path.{_≡_}
+use mathlib.Core.Bool.{true, not, _||_, cond}
+use mathlib.Core.List.{List}
+use Prim.Native.Nat.{ℕ, _*_}
+use lib.Dec.{eqb, ltb}
+use lib.ListN.{length, drop}
+use Rattle.std.specs.declared.option.Option.{Option}
+use Rattle.std.specs.declared.option.Option.the-variants.{Some, None}
+use Rattle.board.specs.Refusals.{refuse}
+use Rattle.board.specs.Sizes.{area}
+use Rattle.board.specs.declared.cell.Cell.{Cell}
+use Rattle.board.specs.declared.refusal.Refusal.{Refusal}
+use Rattle.board.specs.declared.refusal.Refusal.the-variants as refusal
+use Rattle.plate.specs.declared.header.Draft.{Draft}
+
+-- over the cells, the groups, the group asked for, and the lengths of its map and of the queue
+abbrev pub measure-refusal : Draft → List Cell → List ℕ → ℕ → ℕ → ℕ → Option Refusal
+measure-refusal d cells groups group map entries =
+    let n = area (d .header .size) in
+    refuse ((ltb (length cells) n || ltb (length groups) 64) || (ltb map n || ltb entries (9 * n))) refusal.Tables
+    (refuse (eqb group 0 || ltb 2 group) refusal.Group None)
+
+-- the group's map is current, and the other as it was
+abbrev pub measured : ℕ → Draft → Draft
+measured group d = record {
+  header = record {
+    size = d .header .size;
+    first = d .header .first || eqb group 1;
+    second = d .header .second || not (eqb group 1);
+  };
+}
+
+-- a table of which measuring writes the first n entries, and none where it is sent back
+abbrev pub Kept : {X : Type 0} → Option Refusal → ℕ → List X → List X → Type 0
+Kept None n old new = drop n new ≡ drop n old
+Kept (Some e) n old new = new ≡ old
+
+-- over the lengths of the two maps; both have to be current
+abbrev pub gap-refusal : Draft → ℕ → ℕ → Option Refusal
+gap-refusal d first second =
+    let n = area (d .header .size) in
+    refuse (ltb first n || ltb second n) refusal.Tables
+    (refuse (not (d .header .first) || not (d .header .second)) refusal.Outdated None)
