@@ -5,14 +5,11 @@ use Prim.Native.Nat.{ℕ, _+_, _*_}
 use lib.Dec.{leb, ltb}
 use Rattle.std.specs.declared.option.Option.{Option}
 use Rattle.std.specs.declared.option.Option.the-variants.{Some, None}
-use Rattle.board.specs.Refusals.{refuse}
-use Rattle.board.specs.declared.refusal.Refusal.{Refusal}
-use Rattle.board.specs.declared.refusal.Refusal.the-variants as refusal
 use Rattle.board.specs.declared.size.Size.{Size}
 
 -- rows or columns outside 1 to 256
-abbrev pub size-refusal : ℕ → ℕ → Option Refusal
-size-refusal rows columns = refuse ((ltb rows 1 || ltb 256 rows) || (ltb columns 1 || ltb 256 columns)) refusal.Size None
+abbrev pub bad-size : ℕ → ℕ → Bool
+bad-size rows columns = (ltb rows 1 || ltb 256 rows) || (ltb columns 1 || ltb 256 columns)
 
 -- the size of these rows and columns
 pub record Sized (s : Size) (r c : ℕ) : Type 0 where

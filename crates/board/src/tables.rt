@@ -1,21 +1,20 @@
 // Reading and filling the tables of a plate.
+ghost use mathlib.Core.Bool.{true, false};
 ghost use mathlib.Core.List.{_++_};
 ghost use mathlib.Core.Path.{_≡_};
-ghost use Prim.Native.Nat.{_*_, _+_, _≤_, _<_};
+ghost use Prim.Native.Nat.{_≤_, _<_};
 ghost use lib.ListN.{length, drop, replicate};
-ghost use Rattle.board.specs.Refusals.{answered};
-ghost use Rattle.board.specs.Sizes.{Sized, area, off, cell-number, size-refusal};
+ghost use Rattle.board.specs.declared.refusal.Refusal.the-variants as refusal;
+ghost use Rattle.board.specs.Sizes.{Sized, area, bad-size, cell-number};
 ghost use Rattle.board.specs.Tables.{group-of};
 ghost use Rattle.std.specs.Options.{Cases as BySome};
 ghost use Rattle.std.specs.Results.{Cases as ByOk};
-ghost use Rattle.std.specs.declared.option.Option.the-variants.{Some, None};
-ghost use Rattle.std.specs.declared.result.Result.the-variants.{Ok, Err};
 use crate::Refusal;
 use crate::Size;
 
 impl Size {
     pub fn new(rows: u16, columns: u16) -> Result<Size, Refusal>
-        ensures { λ r. ⌜ ByOk r (λ s. (size-refusal rows columns ≡ None) × Sized s rows columns) (λ e. size-refusal rows columns ≡ Some e) ⌝ }
+        ensures { λ r. ⌜ ByOk r (λ s. (bad-size rows columns ≡ false) × Sized s rows columns) (λ e. (bad-size rows columns ≡ true) × (e ≡ refusal.Size)) ⌝ }
     {
         if rows == 0 || rows > 256 || columns == 0 || columns > 256 {
             return Err(Refusal::Size);

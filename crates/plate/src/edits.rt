@@ -1,12 +1,10 @@
 // Opening a plate, and the edits.
-ghost use mathlib.Core.Bool.{true, false};
-ghost use mathlib.Core.List.{_++_};
+ghost use mathlib.Core.Bool.{false};
 ghost use mathlib.Core.Path.{_≡_};
-ghost use Prim.Native.Nat.{_-_, _<_};
-ghost use lib.ListN.{length, set};
-ghost use Rattle.board.specs.Refusals.{after, answered};
+ghost use Prim.Native.Nat.{_<_};
+ghost use lib.ListN.{length};
 ghost use Rattle.board.specs.Sizes.{cell-at};
-ghost use Rattle.plate.specs.Edits.{outdated, barred-cell, Opened, open-refusal, set-refusal, bar-refusal, enrol-refusal, cells-opened, groups-opened};
+ghost use Rattle.plate.specs.Edits.{Edits, Opens, bar-refusal, barred-cell, cell-put, enrol-refusal, group-put, outdated, set-refusal};
 ghost use Rattle.std.specs.Results.{Cases as ByOk};
 ghost use Rattle.std.specs.declared.option.Option.the-variants.{Some, None};
 use crate::Draft;
@@ -24,9 +22,7 @@ impl Draft {
         cells: &mut [Cell],
         groups: &mut [u8],
     ) -> Result<Draft, Refusal>
-        ensures answer { λ r. ⌜ Opened rows columns (open-refusal rows columns (now (cells .entry)) (now (groups .entry))) r ⌝ }
-        ensures cells { λ _. ⌜ now (cells .exit) ≡ after (open-refusal rows columns (now (cells .entry)) (now (groups .entry))) (now (cells .entry)) (cells-opened rows columns (now (cells .entry))) ⌝ }
-        ensures groups { λ _. ⌜ now (groups .exit) ≡ after (open-refusal rows columns (now (cells .entry)) (now (groups .entry))) (now (groups .entry)) (groups-opened (now (groups .entry))) ⌝ }
+        ensures { λ r. ⌜ Opens rows columns (now (cells .entry)) (now (cells .exit)) (now (groups .entry)) (now (groups .exit)) r ⌝ }
     {
         let size = Size::new(rows, columns)?;
         if cells.len() < size.area() || groups.len() < 64 {
@@ -78,9 +74,7 @@ impl Draft {
         height: u16,
         pad: u16,
     ) -> Result<(), Refusal>
-        ensures answer { λ r. ⌜ r ≡ answered (set-refusal (now (self .entry)) (now (cells .entry)) row column pad) ⌝ }
-        ensures cells { λ _. ⌜ now (cells .exit) ≡ after (set-refusal (now (self .entry)) (now (cells .entry)) row column pad) (now (cells .entry)) (set (now (cells .entry)) (cell-at (now (self .entry) .header .size) row column) (record { height = height; pad = pad; barred = false })) ⌝ }
-        ensures header { λ _. ⌜ now (self .exit) ≡ after (set-refusal (now (self .entry)) (now (cells .entry)) row column pad) (now (self .entry)) (outdated (now (self .entry))) ⌝ }
+        ensures { λ r. ⌜ Edits (set-refusal (now (self .entry)) (now (cells .entry)) row column pad) (now (self .entry)) (now (self .exit)) (now (cells .entry)) (cell-put (now (self .entry)) (now (cells .entry)) row column (record { height = height; pad = pad; barred = false })) (now (cells .exit)) r ⌝ }
     {
         let at = self.cell_index(cells, row, column)?;
         if pad > 64 {
@@ -97,9 +91,7 @@ impl Draft {
 
     // Bars a cell, with height and pad 0.
     pub fn bar(&mut self, cells: &mut [Cell], row: u16, column: u16) -> Result<(), Refusal>
-        ensures answer { λ r. ⌜ r ≡ answered (bar-refusal (now (self .entry)) (now (cells .entry)) row column) ⌝ }
-        ensures cells { λ _. ⌜ now (cells .exit) ≡ after (bar-refusal (now (self .entry)) (now (cells .entry)) row column) (now (cells .entry)) (set (now (cells .entry)) (cell-at (now (self .entry) .header .size) row column) barred-cell) ⌝ }
-        ensures header { λ _. ⌜ now (self .exit) ≡ after (bar-refusal (now (self .entry)) (now (cells .entry)) row column) (now (self .entry)) (outdated (now (self .entry))) ⌝ }
+        ensures { λ r. ⌜ Edits (bar-refusal (now (self .entry)) (now (cells .entry)) row column) (now (self .entry)) (now (self .exit)) (now (cells .entry)) (cell-put (now (self .entry)) (now (cells .entry)) row column barred-cell) (now (cells .exit)) r ⌝ }
     {
         let at = self.cell_index(cells, row, column)?;
         cells[at] = Cell {
@@ -113,9 +105,7 @@ impl Draft {
 
     // Puts a pad into a group.
     pub fn enrol(&mut self, groups: &mut [u8], pad: u16, group: u16) -> Result<(), Refusal>
-        ensures answer { λ r. ⌜ r ≡ answered (enrol-refusal (now (groups .entry)) pad group) ⌝ }
-        ensures groups { λ _. ⌜ now (groups .exit) ≡ after (enrol-refusal (now (groups .entry)) pad group) (now (groups .entry)) (set (now (groups .entry)) (pad - 1) group) ⌝ }
-        ensures header { λ _. ⌜ now (self .exit) ≡ after (enrol-refusal (now (groups .entry)) pad group) (now (self .entry)) (outdated (now (self .entry))) ⌝ }
+        ensures { λ r. ⌜ Edits (enrol-refusal (now (groups .entry)) pad group) (now (self .entry)) (now (self .exit)) (now (groups .entry)) (group-put (now (groups .entry)) pad group) (now (groups .exit)) r ⌝ }
     {
         if groups.len() < 64 {
             return Err(Refusal::Tables);

@@ -1,10 +1,9 @@
 // Measuring a group's map, and reading the two maps.
 ghost use mathlib.Core.Path.{_≡_};
-ghost use Prim.Native.Nat.{_*_, _≤_};
+ghost use Prim.Native.Nat.{_≤_};
 ghost use lib.ListN.{length};
-ghost use Rattle.board.specs.Refusals.{after};
 ghost use Rattle.board.specs.Sizes.{area};
-ghost use Rattle.plate.specs.Maps.{Kept, gap-refusal, measure-refusal, measured};
+ghost use Rattle.plate.specs.Maps.{Measures, gap-refusal, measure-refusal};
 ghost use Rattle.std.specs.Results.{Cases as ByOk};
 ghost use Rattle.std.specs.declared.option.Option.the-variants.{Some, None};
 use crate::Draft;
@@ -88,10 +87,7 @@ impl Draft {
         map: &mut [MapRecord<RowOf<G>>],
         entries: &mut [Offer<RowOf<G>>],
     ) -> Result<Counts, Refusal>
-        ensures answer { λ r. ⌜ ByOk r (λ counts. (measure-refusal (now (self .entry)) (now (cells .entry)) (now (groups .entry)) group (length (now (map .entry))) (length (now (entries .entry))) ≡ None) × (counts .reached ≤ area (now (self .entry) .header .size))) (λ e. measure-refusal (now (self .entry)) (now (cells .entry)) (now (groups .entry)) group (length (now (map .entry))) (length (now (entries .entry))) ≡ Some e) ⌝ }
-        ensures header { λ _. ⌜ now (self .exit) ≡ after (measure-refusal (now (self .entry)) (now (cells .entry)) (now (groups .entry)) group (length (now (map .entry))) (length (now (entries .entry)))) (now (self .entry)) (measured group (now (self .entry))) ⌝ }
-        ensures map { λ _. ⌜ Kept (measure-refusal (now (self .entry)) (now (cells .entry)) (now (groups .entry)) group (length (now (map .entry))) (length (now (entries .entry)))) (area (now (self .entry) .header .size)) (now (map .entry)) (now (map .exit)) ⌝ }
-        ensures entries { λ _. ⌜ Kept (measure-refusal (now (self .entry)) (now (cells .entry)) (now (groups .entry)) group (length (now (map .entry))) (length (now (entries .entry)))) (9 * area (now (self .entry) .header .size)) (now (entries .entry)) (now (entries .exit)) ⌝ }
+        ensures { λ r. ⌜ Measures (measure-refusal (now (self .entry)) (now (cells .entry)) (now (groups .entry)) group (length (now (map .entry))) (length (now (entries .entry)))) group (area (now (self .entry) .header .size)) (now (self .entry)) (now (self .exit)) (now (map .entry)) (now (map .exit)) (now (entries .entry)) (now (entries .exit)) r ⌝ }
     {
         self.may_measure(cells, groups, group, map.len(), entries.len())?;
         let counts = measure_group(
