@@ -1,1 +1,4 @@
-pub mod Rulers
+pub mod RulerLaw
+pub mod Roots
+pub mod Reverses
+pub mod LayerLaw

@@ -1,3 +1,4 @@
 pub mod Steps
 pub mod Meanings
-pub mod Chessboards
+pub mod Rulers
+pub mod Layers

@@ -1,16 +1,41 @@
 // Gauges carry lengths across steps, rulers by adding each step's own length.
 ghost use mathlib.Core.Path.{_≡_};
-ghost use Rattle.gauges.specs.Meanings.{Crossing, Lawful, crossed, Ruling, RulerLaws, ByAdding, own};
+ghost use Rattle.gauges.specs.Meanings.{ByAdding, Crossing, Lawful, Ruling, RulerLaws, crossed, own};
 use lengths::Length;
 
-pub mod chess;
+pub mod formulas;
+pub mod layers;
+pub mod rectangle;
+pub mod rectangles;
+pub mod rulers;
 pub mod step;
+pub mod three_four;
+pub mod weighting;
 
-pub use chess::Chessboard;
-pub use chess::ChessboardGauge;
-pub use chess::ChessboardRuler;
+pub use formulas::Chessboard;
+pub use formulas::ChessboardFormula;
+pub use formulas::Euclid;
+pub use formulas::EuclidFormula;
+pub use formulas::ThreeFourFormula;
+pub use layers::Fence;
+pub use layers::FenceGauge;
+pub use layers::FenceRuler;
+pub use layers::SentBack;
+pub use layers::WeightingGauge;
+pub use layers::WeightingRuler;
+pub use rectangle::Rectangle;
+pub use rectangles::Rectangles;
+pub use rulers::CountedChessboard;
+pub use rulers::CountedChessboardGauge;
+pub use rulers::CountedChessboardRuler;
+pub use rulers::Formula;
+pub use rulers::WholeRuler;
+pub use rulers::WholeRulerGauge;
+pub use rulers::WholeRulerRuler;
 pub use step::Point;
 pub use step::Step;
+pub use three_four::ThreeFour;
+pub use weighting::Weighting;
 
 // A gauge answers by its meaning alone: whether a step is barred, and the length carried across it.
 pub trait Gauge {

@@ -16,5 +16,6 @@ whole-kind = record { zero = whole 0; le = λ a b. leb (a .units) (b .units) }
 abbrev pub whole-rows : Rows Whole ℕ
 whole-rows = record { encode = λ a. a .units; decode = whole }
 
+-- the sum, or the longest length where the sum is beyond it
 abbrev pub whole-sum : Whole → Whole → Whole
-whole-sum a b = whole (a .units + b .units)
+whole-sum a b = whole (min (a .units + b .units) (2 ^ 64 - 1))

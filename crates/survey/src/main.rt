@@ -5,8 +5,10 @@ use board::MapRecord;
 use board::MapRecordClone;
 use board::Refusal;
 use gauges::Chessboard;
-use gauges::ChessboardGauge;
-use gauges::ChessboardRuler;
+use gauges::ChessboardFormula;
+use gauges::WholeRuler;
+use gauges::WholeRulerGauge;
+use gauges::WholeRulerRuler;
 use lengths::WholeLength;
 use plate::Draft;
 use queue::Offer;
@@ -97,7 +99,7 @@ fn measure_group(
     map: &mut [MapRecord<u64>],
     entries: &mut [Offer<u64>],
 ) -> Result<(), Stop> {
-    let counts = draft.measure(&Chessboard, cells, groups, group, map, entries)?;
+    let counts = draft.measure(&WholeRuler(Chessboard), cells, groups, group, map, entries)?;
     let reached = counts.reached;
     let steps = counts.steps;
     println!(rt, "measure\t{group}\treached\t{reached}\tsteps\t{steps}")?;
@@ -110,7 +112,7 @@ fn print_gap(
     first: &[MapRecord<u64>],
     second: &[MapRecord<u64>],
 ) -> Result<(), Stop> {
-    match draft.gap(&Chessboard, first, second)? {
+    match draft.gap(&WholeRuler(Chessboard), first, second)? {
         Some(gap) => {
             let units = gap.units;
             println!(rt, "gap\t{units}")?;

@@ -3,8 +3,10 @@ use board::Cell;
 use board::MapRecord;
 use board::Refusal;
 use gauges::Chessboard;
-use gauges::ChessboardGauge;
-use gauges::ChessboardRuler;
+use gauges::ChessboardFormula;
+use gauges::WholeRuler;
+use gauges::WholeRulerGauge;
+use gauges::WholeRulerRuler;
 use lengths::WholeLength;
 use measuring::Counts;
 use measuring::CountsDebug;
@@ -36,9 +38,23 @@ pub fn measure_both(draft: &mut Draft, cells: &[Cell], groups: &[u8]) -> Result<
     let mut first = [MapRecord::unreached(0); CELLS];
     let mut second = [MapRecord::unreached(0); CELLS];
     let mut entries = [Offer { length: 0, cell: 0 }; 81];
-    let one = draft.measure(&Chessboard, cells, groups, 1, &mut first, &mut entries)?;
-    let two = draft.measure(&Chessboard, cells, groups, 2, &mut second, &mut entries)?;
-    let gap = match draft.gap(&Chessboard, &first, &second)? {
+    let one = draft.measure(
+        &WholeRuler(Chessboard),
+        cells,
+        groups,
+        1,
+        &mut first,
+        &mut entries,
+    )?;
+    let two = draft.measure(
+        &WholeRuler(Chessboard),
+        cells,
+        groups,
+        2,
+        &mut second,
+        &mut entries,
+    )?;
+    let gap = match draft.gap(&WholeRuler(Chessboard), &first, &second)? {
         Some(length) => Some(length.units),
         None => None,
     };
@@ -182,7 +198,9 @@ mod tests {
         check_eq(draft.enrol(&mut groups, 1, 3), Err(Refusal::Group))?;
         check_eq(draft.enrol(&mut groups[0..63], 1, 1), Err(Refusal::Tables))?;
         let map = [MapRecord::unreached(0); CELLS];
-        check(draft.gap(&Chessboard, &map, &map).is_err()).note("nothing is measured yet")?;
+        check(draft.gap(&WholeRuler(Chessboard), &map, &map).is_err()).note(
+            "nothing is measured yet",
+        )?;
         check_eq(draft.set(&mut cells, 1, 2, 4, 64), Ok(()))?;
         check(cells[5].height == 4 && cells[5].pad == 64).note("the sixth cell")
     }
