@@ -5,6 +5,7 @@ ghost use Prim.Native.Nat.{_+_, _*_, _≤_, _<_};
 ghost use lib.ListN.{length, drop};
 ghost use Rattle.board.specs.Sizes.{area};
 ghost use Rattle.board.specs.Tables.{source-pad};
+ghost use Rattle.queue.specs.Orders.{offer-le};
 ghost use Rattle.queue.specs.Queues.{Sound};
 use board::Cell;
 use board::MapRecord;
@@ -57,8 +58,8 @@ fn start_cell<'q, K: Length>(
     map: &mut [MapRecord<K::Row>],
     queue: &mut Queue<'q, Offer<K::Row>>,
 )
-    requires { ⌜ number < length (now map) ⌝ ∗ ⌜ Sound (now queue) ⌝ }
-    ensures sound { λ _. ⌜ Sound (now (queue .exit)) ⌝ }
+    requires { ⌜ number < length (now map) ⌝ ∗ ⌜ Sound (offer-le (K·Length .kind) (K·Length .rows)) (now queue) ⌝ }
+    ensures sound { λ _. ⌜ Sound (offer-le (K·Length .kind) (K·Length .rows)) (now (queue .exit)) ⌝ }
 {
     let zero = K::zero().encode();
     let mut record = MapRecord::unreached(zero);
@@ -82,8 +83,8 @@ fn start<'q, K: Length>(
     map: &mut [MapRecord<K::Row>],
     queue: &mut Queue<'q, Offer<K::Row>>,
 )
-    requires { ⌜ area size ≤ length (now cells) ⌝ ∗ ⌜ area size ≤ length (now map) ⌝ ∗ ⌜ Sound (now queue) ⌝ }
-    ensures sound { λ _. ⌜ Sound (now (queue .exit)) ⌝ }
+    requires { ⌜ area size ≤ length (now cells) ⌝ ∗ ⌜ area size ≤ length (now map) ⌝ ∗ ⌜ Sound (offer-le (K·Length .kind) (K·Length .rows)) (now queue) ⌝ }
+    ensures sound { λ _. ⌜ Sound (offer-le (K·Length .kind) (K·Length .rows)) (now (queue .exit)) ⌝ }
 {
     for number in 0..size.area() {
         let pad = source_pad(cells[number], groups, group);
@@ -100,8 +101,8 @@ fn offer_across<'q, G: Gauge>(
     map: &mut [MapRecord<RowOf<G>>],
     queue: &mut Queue<'q, Offer<RowOf<G>>>,
 )
-    requires { ⌜ number < length (now map) ⌝ ∗ ⌜ Sound (now queue) ⌝ }
-    ensures sound { λ _. ⌜ Sound (now (queue .exit)) ⌝ }
+    requires { ⌜ number < length (now map) ⌝ ∗ ⌜ Sound (offer-le (Length·Length .kind) (Length·Length .rows)) (now queue) ⌝ }
+    ensures sound { λ _. ⌜ Sound (offer-le (Length·Length .kind) (Length·Length .rows)) (now (queue .exit)) ⌝ }
     ensures few { λ _. ⌜ now (queue .exit) .len ≤ now (queue .entry) .len + 1 ⌝ }
 {
     let step = Step { from: from.at, to };
@@ -138,9 +139,9 @@ fn offer_in_row<'q, G: Gauge>(
     map: &mut [MapRecord<RowOf<G>>],
     queue: &mut Queue<'q, Offer<RowOf<G>>>,
 ) -> usize
-    requires { ⌜ area size ≤ length (now cells) ⌝ ∗ ⌜ area size ≤ length (now map) ⌝ ∗ ⌜ Sound (now queue) ⌝ }
+    requires { ⌜ area size ≤ length (now cells) ⌝ ∗ ⌜ area size ≤ length (now map) ⌝ ∗ ⌜ Sound (offer-le (Length·Length .kind) (Length·Length .rows)) (now queue) ⌝ }
     requires { ⌜ row < size .rows ⌝ ∗ ⌜ from .at .column < size .columns ⌝ }
-    ensures sound { λ _. ⌜ Sound (now (queue .exit)) ⌝ }
+    ensures sound { λ _. ⌜ Sound (offer-le (Length·Length .kind) (Length·Length .rows)) (now (queue .exit)) ⌝ }
     ensures few { λ r. ⌜ now (queue .exit) .len ≤ now (queue .entry) .len + 3 ⌝ ∗ ⌜ r ≤ 3 ⌝ }
 {
     let mut steps = 0;
@@ -172,9 +173,9 @@ fn offer_around<'q, G: Gauge>(
     map: &mut [MapRecord<RowOf<G>>],
     queue: &mut Queue<'q, Offer<RowOf<G>>>,
 ) -> usize
-    requires { ⌜ area size ≤ length (now cells) ⌝ ∗ ⌜ area size ≤ length (now map) ⌝ ∗ ⌜ Sound (now queue) ⌝ }
+    requires { ⌜ area size ≤ length (now cells) ⌝ ∗ ⌜ area size ≤ length (now map) ⌝ ∗ ⌜ Sound (offer-le (Length·Length .kind) (Length·Length .rows)) (now queue) ⌝ }
     requires { ⌜ from .at .row < size .rows ⌝ ∗ ⌜ from .at .column < size .columns ⌝ }
-    ensures sound { λ _. ⌜ Sound (now (queue .exit)) ⌝ }
+    ensures sound { λ _. ⌜ Sound (offer-le (Length·Length .kind) (Length·Length .rows)) (now (queue .exit)) ⌝ }
     ensures few { λ r. ⌜ now (queue .exit) .len ≤ now (queue .entry) .len + 9 ⌝ ∗ ⌜ r ≤ 9 ⌝ }
 {
     let mut steps = 0;
@@ -196,9 +197,9 @@ fn rank_cell<'q, G: Gauge>(
     map: &mut [MapRecord<RowOf<G>>],
     queue: &mut Queue<'q, Offer<RowOf<G>>>,
 ) -> usize
-    requires { ⌜ area size ≤ length (now cells) ⌝ ∗ ⌜ area size ≤ length (now map) ⌝ ∗ ⌜ Sound (now queue) ⌝ }
+    requires { ⌜ area size ≤ length (now cells) ⌝ ∗ ⌜ area size ≤ length (now map) ⌝ ∗ ⌜ Sound (offer-le (Length·Length .kind) (Length·Length .rows)) (now queue) ⌝ }
     requires { ⌜ offer .cell < area size ⌝ }
-    ensures sound { λ _. ⌜ Sound (now (queue .exit)) ⌝ }
+    ensures sound { λ _. ⌜ Sound (offer-le (Length·Length .kind) (Length·Length .rows)) (now (queue .exit)) ⌝ }
     ensures few { λ r. ⌜ now (queue .exit) .len ≤ now (queue .entry) .len + 9 ⌝ ∗ ⌜ r ≤ 9 ⌝ }
 {
     let number = offer.cell as usize;
@@ -227,7 +228,7 @@ fn rank_all<'q, G: Gauge>(
     map: &mut [MapRecord<RowOf<G>>],
     queue: &mut Queue<'q, Offer<RowOf<G>>>,
 ) -> Counts
-    requires { ⌜ area size ≤ length (now cells) ⌝ ∗ ⌜ area size ≤ length (now map) ⌝ ∗ ⌜ Sound (now queue) ⌝ }
+    requires { ⌜ area size ≤ length (now cells) ⌝ ∗ ⌜ area size ≤ length (now map) ⌝ ∗ ⌜ Sound (offer-le (Length·Length .kind) (Length·Length .rows)) (now queue) ⌝ }
     ensures bound { λ r. ⌜ r .reached ≤ area size ⌝ }
 {
     let area = size.area();

@@ -1,1 +1,3 @@
 pub mod Offers
+pub mod Sifting
+pub mod Parts

@@ -7,14 +7,15 @@ ghost use Rattle.queue.specs.Orders.{OrderLaws};
 
 pub mod heap;
 pub mod offer;
+pub mod queues;
 
-pub use heap::Queue;
 pub use heap::sift_down;
 pub use heap::sift_up;
 pub use offer::ByLength;
 pub use offer::ByLengthOrder;
 pub use offer::Offer;
 pub use offer::OfferClone;
+pub use queues::Queue;
 
 // An order on entries.
 pub trait Order {
