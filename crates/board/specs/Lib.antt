@@ -1,3 +1,4 @@
 pub mod Refusals
 pub mod Sizes
 pub mod Tables
+pub mod Records

@@ -2,7 +2,7 @@
 use mathlib.Core.Bool.{cond, not, _||_}
 use mathlib.Core.List.{List}
 use Prim.Native.Nat.{ℕ, _-_}
-use lib.Dec.{eqb, leb}
+use lib.Dec.{eqb, leb, ltb}
 use lib.ListN.{getD}
 use Rattle.board.specs.declared.cell.Cell.{Cell}
 
@@ -14,9 +14,9 @@ known-pad p = cond (leb p 64) p 0
 abbrev pub known-group : ℕ → ℕ
 known-group g = cond (leb g 2) g 0
 
--- the group of a pad: pad 1 has the first byte, and pad 0 is in no group
+-- the group of a pad: pad 1 has the first byte, and pad 0 and those above 64 are in no group
 abbrev pub group-of : List ℕ → ℕ → ℕ
-group-of groups p = cond (eqb p 0) 0 (known-group (getD groups (p - 1) 0))
+group-of groups p = cond (eqb p 0 || ltb 64 p) 0 (known-group (getD groups (p - 1) 0))
 
 -- the pad of a source of the group, an open cell whose pad is in it; 0 at any other cell
 abbrev pub source-pad : Cell → List ℕ → ℕ → ℕ

@@ -1,4 +1,6 @@
 // Map records.
+ghost use mathlib.Core.Path.{_≡_};
+ghost use Rattle.board.specs.Records.{unreached-record};
 
 // What a map says of one cell. The length stands as its row, of whichever kind the gauge measures in.
 #[derive(Clone, Copy, Debug, PartialEq)]
@@ -12,7 +14,9 @@ pub struct MapRecord<R> {
 
 impl<R: Copy> MapRecord<R> {
     // The record of an unreached cell, over the row of the kind's zero.
-    pub fn unreached(zero: R) -> MapRecord<R> {
+    pub fn unreached(zero: R) -> MapRecord<R>
+        ensures { λ r. ⌜ r ≡ unreached-record zero ⌝ }
+    {
         MapRecord {
             length: zero,
             reached: false,

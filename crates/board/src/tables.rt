@@ -42,11 +42,11 @@ impl Size {
     }
 }
 
-// The group of a pad by the bytes of pads 1 to 64; pad 0, and a byte above 2, give 0.
+// The group of a pad by the bytes of pads 1 to 64; any other pad, and a byte above 2, give 0.
 pub fn group_of(groups: &[u8], pad: u8) -> u8
     ensures { λ r. ⌜ r ≡ group-of (now (groups .entry)) pad ⌝ }
 {
-    if pad == 0 || pad as usize > groups.len() {
+    if pad == 0 || pad > 64 || pad as usize > groups.len() {
         return 0;
     }
     let group = groups[pad as usize - 1];

@@ -1,5 +1,7 @@
-// Tests of the rulers and layers, and two gauges as a client would write them.
+// Tests of the rulers and layers, and gauges and a ruler as a client would write them.
 ghost use mathlib.Core.Bool.{false, true};
+ghost use Rattle.gauge_trials.specs.Terraces.{terrace};
+ghost use Rattle.gauges.specs.Meanings.{adding};
 use gauges::Gauge;
 use gauges::Point;
 use gauges::Ruler;
@@ -32,6 +34,38 @@ pub impl Gauge for Level as LevelGauge {
 
     fn carry(&self, step: Step, length: Whole) -> Option<Whole> {
         Some(length)
+    }
+}
+
+// A ruler that bars every step between different heights, and takes any other for 1.
+#[derive(Clone, Copy)]
+pub struct Terrace;
+
+pub impl Gauge for Terrace as TerraceGauge {
+    type Length = Whole;
+
+    ghost crossing = { λ _. adding terrace };
+
+    fn carry(&self, step: Step, length: Whole) -> Option<Whole> {
+        match self.span(step) {
+            Some(own) => Some(length.saturating_add(own)),
+            None => None,
+        }
+    }
+}
+
+pub impl Ruler for Terrace as TerraceRuler {
+    ghost ruling = { λ _. terrace };
+
+    fn span(&self, step: Step) -> Option<Whole> {
+        if step.rise() > 0 {
+            return None;
+        }
+        Some(Whole::new(1))
+    }
+
+    fn sum(&self, a: Whole, b: Whole) -> Whole {
+        a.saturating_add(b)
     }
 }
 
@@ -200,7 +234,13 @@ mod tests {
         let Ok(level) = Weighting::new(Fence::new(Level, upper), 3) else {
             return Err(Fail::new("3 is in range"));
         };
-        check_eq(carried_by(&level, lower(9), 7), Some(7))
+        check_eq(carried_by(&level, lower(9), 7), Some(7))?;
+        let Ok(terrace) = Weighting::new(Fence::new(Terrace, upper), 4) else {
+            return Err(Fail::new("4 is in range"));
+        };
+        check_eq(units_by(&terrace, lower(0)), Some(4))?;
+        check_eq(units_by(&terrace, lower(1)), None)?;
+        check_eq(units_by(&terrace, rising(0, true)), None).note("in the fence")
     }
 
     #[test]

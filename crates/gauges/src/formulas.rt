@@ -64,6 +64,9 @@ pub impl Formula for ThreeFour as ThreeFourFormula {
     }
 }
 
+// From this rise on the width of a cell adds less than a 256th to the length.
+const STEEP: u64 = 256;
+
 // The length in 256ths of a cell, rounded down.
 #[derive(Clone, Copy)]
 pub struct Euclid;
@@ -95,8 +98,7 @@ impl Euclid {
         ensures value { λ r. ⌜ r ≡ euclid-units step ⌝ }
     {
         let rise = step.rise();
-        // From here on a cell's width more or less is below one 256th.
-        if rise >= 256 {
+        if rise >= STEEP {
             return 256 * rise;
         }
         root_within(

@@ -32,6 +32,7 @@ pub use rulers::Formula;
 pub use rulers::WholeRuler;
 pub use rulers::WholeRulerGauge;
 pub use rulers::WholeRulerRuler;
+pub use rulers::rulers_serve_as_gauges;
 pub use step::Point;
 pub use step::Step;
 pub use three_four::ThreeFour;

@@ -1,7 +1,7 @@
 // The four rulers. None of them bars a step.
 ghost use mathlib.Core.Path.{_≡_};
 ghost use Prim.Native.Nat.{ℕ};
-ghost use Rattle.gauges.specs.Meanings.{adding};
+ghost use Rattle.gauges.specs.Meanings.{Lawful, Ruling, RulerLaws, adding};
 ghost use Rattle.gauges.specs.Rulers.{counted-chessboard, whole-ruling};
 ghost use Rattle.gauges.specs.Steps.{Genuine, reversed};
 ghost use Rattle.gauges.specs.declared.step.Step.{Step as TheStep};
@@ -10,6 +10,7 @@ use crate::Ruler;
 use crate::Step;
 use lengths::Counted;
 use lengths::CountedLength;
+use lengths::Length;
 use lengths::Whole;
 use lengths::WholeLength;
 
@@ -48,6 +49,11 @@ pub impl<F: Formula> Ruler for WholeRuler<F> as WholeRulerRuler {
         a.saturating_add(b)
     }
 }
+
+// Every lawful ruler over a kind of length serves as a lawful gauge by adding, a client's own too.
+pub fn rulers_serve_as_gauges<K: Length>()
+    ensures { λ _. ⌜ ((r : Ruling K) → RulerLaws (K·Length .kind) r → Lawful (K·Length .kind) (adding r)) ⌝ }
+{}
 
 // A step is as long as by chessboard, and counts as one step.
 #[derive(Clone, Copy)]

@@ -27,7 +27,7 @@ module _ {E : Type 0} (xs ys : List E) (m : ℕ) (within : m ≤ length xs) (lon
 
 module _ {E : Type 0} {le : E → E → Bool} where
   -- a place behind a heap is a hole at its end
-  pub holed-behind : (xs : List E) (n m : ℕ) → m ≡ n + 1 → n < length xs → Heap le (take n xs) → Holed le (take m xs) (length (take m xs) - 1)
+  pub holed-behind : (xs : List E) (n m : ℕ) → m ≡ n + 1 → n < length xs → Heap le (take n xs) → Holed le (take m xs) n
   holed-behind xs n m one lt heap =
       let long : length (take m xs) ≡ m = length-take-le m xs (omega arith) in
       let short : length (take n xs) ≡ n = length-take-le n xs (omega arith) in
@@ -53,11 +53,10 @@ module _ {E : Type 0} {le : E → E → Bool} where
       }
 
 -- an entry more at the end, and then the sifting
-pub pushed-on : {E : Type 0} (xs ys : List E) (n m : ℕ) (x : E) → m ≡ n + 1 → n < length xs → Shuffled (set (take m xs) (length (take m xs) - 1) x) ys → Shuffled (x ∷ take n xs) ys
+pub pushed-on : {E : Type 0} (xs ys : List E) (n m : ℕ) (x : E) → m ≡ n + 1 → n < length xs → Shuffled (set (take m xs) n x) ys → Shuffled (x ∷ take n xs) ys
 pushed-on xs ys n m x one lt sifted =
-    let long : length (take m xs) - 1 ≡ n = omega (arith, length-take-le m xs (omega arith)) in
-    let end : set (take m xs) (length (take m xs) - 1) x ≡ take n xs ++ x ∷ [] =
-    (λ i. set (take (one i) xs) (long i) x)
+    let end : set (take m xs) n x ≡ take n xs ++ x ∷ [] =
+    ap (λ j. set (take j xs) n x) one
     ∙ ap (λ l. set l n x) (take-more xs n x lt)
     ∙ set-at (take n xs) (getD xs n x) [] x n (length-take-le n xs (omega arith)) in
     shuffled-trans _ _ _ (shuffled-sym _ _ (shuffled-to-front (take n xs) x)) (subst (λ l. Shuffled l ys) end sifted)

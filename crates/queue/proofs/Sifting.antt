@@ -44,15 +44,18 @@ module _ {E : Type 0} {le : E → E → Bool} (laws : OrderLaws le) where
   pub not-before : (a b : E) → false ≡ le a b → le b a ≡ true
   not-before a b isnt = ⊎-elim (λ is. absurd (false≢true (isnt ∙ is))) (λ back. back) (laws .total a b)
 
-  -- the left child is the lesser, where it is at most the right one
-  pub lesser-left : (xs : List E) (a : ℕ) → ((d : E) → 2 * a + 1 + 1 < length xs → le (getD xs (2 * a + 1) d) (getD xs (2 * a + 1 + 1) d) ≡ true) → (i : ℕ) (d : E) → a < i → i < length xs → parent i ≡ a → le (getD xs (2 * a + 1) d) (getD xs i d) ≡ true
-  lesser-left xs a right i d lt n is =
+  -- what is at most both children is at most each
+  pub each-child : (xs : List E) (h k : ℕ) → ((d : E) → le (getD xs k d) (getD xs (2 * h + 1) d) ≡ true) → ((d : E) → 2 * h + 1 + 1 < length xs → le (getD xs k d) (getD xs (2 * h + 1 + 1) d) ≡ true) → (i : ℕ) (d : E) → h < i → i < length xs → parent i ≡ h → le (getD xs k d) (getD xs i d) ≡ true
+  each-child xs h k left right i d lt n is =
       ⊎-elim
-      (λ left. equal (λ _. getD xs (2 * a + 1) d) (ap (λ j. getD xs j d) left) (⊎-elim (λ e. e) (λ e. e) (laws .total (getD xs (2 * a + 1) d) (getD xs (2 * a + 1) d))))
+      (λ at. equal (λ _. getD xs k d) (ap (λ j. getD xs j d) at) (left d))
       (λ other.
-      let at : i ≡ 2 * a + 1 + 1 = omega arith in
-      equal (λ _. getD xs (2 * a + 1) d) (ap (λ j. getD xs j d) at) (right d (omega arith)))
-      (cases-eq i (2 * a + 1))
+      let at : i ≡ 2 * h + 1 + 1 = omega arith in
+      equal (λ _. getD xs k d) (ap (λ j. getD xs j d) at) (right d (omega arith)))
+      (cases-eq i (2 * h + 1))
+
+  pub itself : (a : E) → le a a ≡ true
+  itself a = ⊎-elim (λ e. e) (λ e. e) (laws .total a a)
 
   -- the hole is filled
   pub filled : (xs : List E) (h : ℕ) (x : E) → h < length xs → Holed le xs h → Above le xs h x → Below-all le xs h x → Heap le (set xs h x)
@@ -129,10 +132,10 @@ module _ {E : Type 0} {le : E → E → Bool} (laws : OrderLaws le) where
   -- the first of a heap is at most every entry
   root-least : (xs : List E) → Heap le xs → (bound i : ℕ) (d : E) → i ≤ bound → i < length xs → le (getD xs 0 d) (getD xs i d) ≡ true
   root-least xs heap zero i d small lt =
-      equal (λ _. getD xs 0 d) (ap (λ j. getD xs j d) (omega arith)) (⊎-elim (λ e. e) (λ e. e) (laws .total (getD xs 0 d) (getD xs 0 d)))
+      equal (λ _. getD xs 0 d) (ap (λ j. getD xs j d) (omega arith)) (itself (getD xs 0 d))
   root-least xs heap (suc bound) i d small lt =
       ⊎-elim
-      (λ is. equal (λ _. getD xs 0 d) (ap (λ j. getD xs j d) is) (⊎-elim (λ e. e) (λ e. e) (laws .total (getD xs 0 d) (getD xs 0 d))))
+      (λ is. equal (λ _. getD xs 0 d) (ap (λ j. getD xs j d) is) (itself (getD xs 0 d)))
       (λ isnt. laws .transitive _ _ _ (root-least xs heap bound (parent i) d (omega arith) (omega arith)) (heap i d (omega arith) lt))
       (cases-eq i 0)
 

@@ -9,6 +9,7 @@ pub mod heap;
 pub mod offer;
 pub mod queues;
 
+pub use heap::replace_first;
 pub use heap::sift_down;
 pub use heap::sift_up;
 pub use offer::ByLength;

@@ -4,7 +4,7 @@ ghost use mathlib.Core.Path.{_≡_};
 ghost use lib.Dec.{eqb};
 ghost use Rattle.queue.specs.Queues.{Pops, Pushes, Sound};
 use crate::Order;
-use crate::sift_down;
+use crate::replace_first;
 use crate::sift_up;
 
 // A priority queue in the front part of a lent slice.
@@ -45,7 +45,7 @@ impl<'a, E: Copy> Queue<'a, E> {
         if len >= self.entries.len() {
             return false;
         }
-        sift_up::<O>(&mut self.entries[0..len + 1], entry);
+        sift_up::<O>(&mut self.entries[0..len + 1], len, entry);
         self.len = len + 1;
         true
     }
@@ -64,7 +64,7 @@ impl<'a, E: Copy> Queue<'a, E> {
         self.len = len;
         if len > 0 {
             let last = self.entries[len];
-            sift_down::<O>(&mut self.entries[0..len], last);
+            replace_first::<O>(&mut self.entries[0..len], last);
         }
         Some(least)
     }

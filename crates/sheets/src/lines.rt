@@ -134,8 +134,8 @@ impl<'a> SheetReader<'a> {
         }
     }
 
-    // Reads the sheet's first line, which gives the rows and columns.
-    pub fn plate_line(&mut self) -> Result<(u16, u16), Fault> {
+    // Whether the sheet is too long, which is judged before its first line.
+    fn check_length(&self) -> Result<(), Fault> {
         let sheet = self.sheet;
         if sheet.len() > LONGEST {
             return Err(Fault {
@@ -144,7 +144,14 @@ impl<'a> SheetReader<'a> {
                 refusal: Refusal::Long,
             });
         }
-        if self.place == sheet.len() {
+        Ok(())
+    }
+
+    // Reads the sheet's first line, which gives the rows and columns. After a fault the reader is spent.
+    pub fn plate_line(&mut self) -> Result<(u16, u16), Fault> {
+        self.check_length()?;
+        let sheet = self.sheet;
+        if self.line > 0 || self.place == sheet.len() {
             return Err(self.fault(Refusal::Order));
         }
         let line = self.begin_line()?;
@@ -157,11 +164,15 @@ impl<'a> SheetReader<'a> {
         Ok((rows, columns))
     }
 
-    // Reads the next line after the first, if there is one.
+    // Reads the next line after the first, if there is one. After a fault the reader is spent.
     pub fn next_edit(&mut self) -> Result<Option<Edit>, Fault>
         ensures same { λ _. ⌜ now (self .exit) .sheet ≡ now (self .entry) .sheet ⌝ }
         ensures on { λ r. ⌜ made r (λ edit. isSome edit ≡ true → now (self .entry) .place < now (self .exit) .place) ⌝ }
     {
+        if self.line == 0 {
+            self.check_length()?;
+            return Err(self.fault(Refusal::Order));
+        }
         let sheet = self.sheet;
         if self.place == sheet.len() {
             return Ok(None);

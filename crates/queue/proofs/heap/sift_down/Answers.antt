@@ -1,42 +1,47 @@
-use mathlib.Core.Path.{_≡_, sym, subst, _∙_}
-use mathlib.Core.Bool.{true}
-use Prim.Native.Nat.{_-_, _/_, _<_}
+use mathlib.Core.Path.{_≡_, sym, _∙_}
+use Prim.Native.Nat.{_+_, _*_, _<_}
 use native.Mathlib.Omega.{arith}
-use lib.ListN.{length, getD, set}
+use lib.ListN.{length, getD}
 use Rattle.std.proofs.shelf.Lists.{getD-read, length-set}
-use Rattle.queue.specs.Heaps.{Below-all}
-use Rattle.queue.proofs.Sifting.{filled, moved-down, above-down, shuffled-moved, not-before}
+use Rattle.queue.specs.Heaps.{parent}
+use Rattle.queue.proofs.Sifting.{each-child, itself, moved-down, shuffled-moved}
 use Rattle.queue.proofs.heap.sift_down.Needs as need
-use Rattle.queue.proofs.heap.sift_down.Needs.{in-Some·then-at-most, in-rest}
 
-pub loop-child-again : need.loop-child-again
-loop-child-again g c =
+pub loop-hole-again : need.loop-hole-again
+loop-hole-again g c =
     let laws = g .O·Order·met .lawful in
-    let xs = c .loop-child .entries in
-    let h = c .loop-child .hole in
-    let k = c .in-Some .child in
+    let xs = c .loop-hole .entries in
+    let h = c .loop-hole .hole in
+    let k = c .lesser-child .result in
     let v = c .index-entries-child .result in
-    let inv = c .loop-child .inv in
-    let child = c .in-Some .ensures tt in
-    let value = getD-read xs k v (child .1) (c .index-entries-child .is) in (
+    let inv = c .loop-hole .inv in
+    let told = c .lesser-child .ensures in
+    let down : parent k ≡ h = omega (arith, told .beside) in
+    let later : h < k = omega (arith, told .beside) in
+    let within : k < length xs = omega (arith, told .beside, inv .0) in
+    let value = getD-read xs k v within (c .index-entries-child .is) in
+    let least = each-child laws xs h k (λ d. told .least d .0) (λ d _. told .least d .1) in (
       length-set xs h v ∙ inv .0,
-      omega (arith, length-set xs h v, child .1),
-      moved-down laws xs h k v (child .0) (child .1) (child .2) value (child .3) (inv .2),
-      above-down laws xs h k v (child .0) (child .1) (child .2) value (child .3) (inv .2) (c .args .moving) (not-before laws (c .args .moving) v (c .if-at-most .ensures tt)),
-      shuffled-moved xs h v _ k (c .args .moving) (inv .1) (child .1) (omega (arith, child .0)) value (inv .4),
+      omega (arith, length-set xs h v),
+      moved-down laws xs h k v later within down value least (inv .2),
+      λ x. shuffled-moved xs h v _ k x (inv .1) within (omega arith) value (inv .3 x),
     )
 
-pub returns : need.returns
-returns g c =
-    let xs = c .loop-child .entries in
-    let h = c .loop-child .hole in
-    let inv = c .loop-child .inv in
-    let below : Below-all (g .O·Order .le) xs h (c .args .moving) =
-    elim (c .match-lesser-child .came) [
-      | in-Some·then-at-most w ↦ λ i d lt n is.
-          let child = w .in-Some .ensures tt in
-          let first = subst (λ y. g .O·Order .le (c .args .moving) y ≡ true) (getD-read xs (w .in-Some .child) (w .index-entries-child .result) (child .1) (w .index-entries-child .is) d) (sym (w .at-most .ensures) ∙ w .if-at-most .taken) in
-          g .O·Order·met .lawful .transitive _ _ _ first (child .3 i d lt n is)
-      | in-rest w ↦ λ i d lt n is. absurd (omega (arith, w .in-rest .ensures tt))
-    ] in
-    record { ordered = filled (g .O·Order·met .lawful) xs h (c .args .moving) (inv .1) (inv .2) (inv .3) below; shuffled = inv .4 }
+-- an only child
+pub returns-then-hole-len : need.returns-then-hole-len
+returns-then-hole-len g c =
+    let laws = g .O·Order·met .lawful in
+    let xs = c .loop-hole .entries in
+    let h = c .loop-hole .hole in
+    let k = 2 * h + 1 in
+    let v = c .index-entries-child-then-hole-len .result in
+    let inv = c .loop-hole .inv in
+    let within : k < length xs = omega (arith, inv .0) in
+    let value = getD-read xs k v within (c .index-entries-child-then-hole-len .is) in
+    let least = each-child laws xs h k (λ d. itself laws (getD xs k d)) (λ d more. absurd (omega (arith, inv .0))) in
+    record {
+      within = omega (arith, length-set xs h v);
+      leaf = omega (arith, length-set xs h v, inv .0);
+      holed = moved-down laws xs h k v (omega arith) within (omega arith) value least (inv .2);
+      shuffled = λ x. shuffled-moved xs h v _ k x (inv .1) within (omega arith) value (inv .3 x);
+    }

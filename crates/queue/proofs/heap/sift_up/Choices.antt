@@ -1,5 +1,5 @@
 use mathlib.Core.Path.{_≡_}
-use Prim.Native.Nat.{_-_, _<_}
+use Prim.Native.Nat.{_<_}
 use lib.ListN.{length, set}
 use Rattle.std.specs.shelf.Sorted.{Shuffled}
 use Rattle.queue.specs.Heaps.{Holed, Below-all}
@@ -12,7 +12,7 @@ Inv-loop-hole g l =
     × (l .hole < length (l .entries))
     × Holed le (l .entries) (l .hole)
     × Below-all le (l .entries) (l .hole) (l .moving)
-    × Shuffled (set (l .entry .entries) (length (l .entry .entries) - 1) (l .moving)) (set (l .entries) (l .hole) (l .moving))
+    × Shuffled (set (l .entry .entries) (l .at) (l .moving)) (set (l .entries) (l .hole) (l .moving))
 
 abbrev pub μ-loop-hole : given.MeasureT-loop-hole
 μ-loop-hole g l = l .hole

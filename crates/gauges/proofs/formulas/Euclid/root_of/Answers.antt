@@ -6,8 +6,8 @@ use Rattle.gauges.specs.Steps.{rise}
 use Rattle.gauges.proofs.Roots.{one-root, euclid-root, steep-root}
 use Rattle.gauges.proofs.formulas.Euclid.root_of.Needs as need
 
-pub returns-then-rise-ge256 : need.returns-then-rise-ge256
-returns-then-rise-ge256 c =
+pub returns-then-rise-ge-STEEP : need.returns-then-rise-ge-STEEP
+returns-then-rise-ge-STEEP c =
     let step = c .args .step in
     let is = c .rise-rise .ensures .value in
     let right = steep-root step (omega (arith, is)) in

@@ -12,8 +12,8 @@ use Rattle.queue.proofs.Parts.{part-is, rest-is, room-is, holed-front, popped-
 use Rattle.queue.proofs.queues.Queue.pop.Needs as need
 use Rattle.queue.proofs.queues.Queue.pop.Needs.{then-len-gt0, else-len-gt0}
 
-pub sift-down-requires : need.sift-down-requires
-sift-down-requires g c κs =
+pub replace-first-requires : need.replace-first-requires
+replace-first-requires g c κs =
     let q = c .args .self .now in
     record {
       some = omega (arith, c .pre .within, length-take-le (q .len - 1 - 0) (q .entries .now) (omega (arith, c .pre .within)));
@@ -37,20 +37,20 @@ returns g c =
     let after : Sound le (c .if-len-gt0 .self) × Pops le q (c .if-len-gt0 .self) (Some first) =
     elim (c .if-len-gt0 .came) [
       | then-len-gt0 w ↦
-          let ys = w .sift-down .last .entries in
+          let ys = w .replace-first .last .entries in
           let last = w .index-self-len in
           let less : k - 0 ≡ k = omega arith in
           let within : k ≤ length xs = omega (arith, c .pre .within) in
-          let long : length ys ≡ k = w .sift-down .kept .entries ∙ length-take-le (k - 0) xs (omega arith) ∙ less in
+          let long : length ys ≡ k = w .replace-first .kept .entries ∙ length-take-le (k - 0) xs (omega arith) ∙ less in
           let new : ys ++ drop k xs ≡ ys ++ drop (k - 0) xs = ap (λ j. ys ++ drop j xs) (sym less) in
           let part : take k (ys ++ drop (k - 0) xs) ≡ ys = ap (take k) (sym new) ∙ part-is xs ys k within long in
           let room : length (ys ++ drop (k - 0) xs) ≡ length xs = ap length (sym new) ∙ room-is xs ys k within long in
-          let sifted = subst (λ j. Shuffled (set (take j xs) 0 (getD xs k (last .result))) ys) less (w .sift-down .ensures .shuffled) in
+          let sifted = subst (λ j. Shuffled (set (take j xs) 0 (getD xs k (last .result))) ys) less (w .replace-first .ensures .shuffled) in
           let off = popped-off xs ys n k first back (c .pre .within) is (last .result) (last .is) (w .if-len-gt0 .taken)
           (subst (λ y. Shuffled (set (take k xs) 0 y) ys) (sym (last .is)) sifted) in (
             subst (Sound le) (sym (w .self-is)) (record {
               within = omega (arith, room);
-              ordered = subst (Heap le) (sym part) (w .sift-down .ensures .ordered);
+              ordered = subst (Heap le) (sym part) (w .replace-first .ensures .ordered);
             }),
             subst (λ q′. Pops le q q′ (Some first)) (sym (w .self-is)) (record {
               len = refl;

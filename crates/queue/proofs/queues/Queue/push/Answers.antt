@@ -14,8 +14,9 @@ pub sift-up-requires : need.sift-up-requires
 sift-up-requires g c κs =
     let q = c .args .self .now in
     record {
-      some = omega (arith, length-take-le (q .len + 1 - 0) (q .entries .now) (omega arith));
+      within = omega (arith, length-take-le (q .len + 1 - 0) (q .entries .now) (omega arith));
       holed = holed-behind (q .entries .now) (q .len) (q .len + 1 - 0) (omega arith) (c .if-len-self .left) (c .pre .ordered);
+      below = λ i d lt n is. absurd (omega (arith, length-take-le (q .len + 1 - 0) (q .entries .now) (omega arith)));
     }
 
 pub returns : need.returns
