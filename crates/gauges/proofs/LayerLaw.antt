@@ -9,10 +9,9 @@ use native.Mathlib.Omega.{arith}
 use lib.ListN.{length, getD, drop}
 use Rattle.std.proofs.shelf.Lists.{drop-more}
 use Rattle.std.proofs.shelf.Tests.{or-parts}
-use Rattle.std.specs.declared.option.Option.{Option}
 use Rattle.std.specs.declared.option.Option.the-variants.{Some, None}
 use Rattle.lengths.specs.Kinds.{Kind, Rows, KindLaws}
-use Rattle.gauges.specs.Steps.{Genuine, reversed}
+use Rattle.gauges.specs.Steps.{reversed}
 use Rattle.gauges.specs.Meanings.{Crossing, Lawful, Ruling, RulerLaws, ByAdding, crossed}
 use Rattle.gauges.specs.Layers.{times, weighted-crossing, weighted-ruling, inside, touches, fenced, fenced-crossing, fenced-ruling}
 use Rattle.gauges.specs.declared.rectangle.Rectangle.{Rectangle}

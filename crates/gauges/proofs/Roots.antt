@@ -1,6 +1,5 @@
 -- The root bit by bit is the greatest number whose square is at most x. Assumes nothing.
-use mathlib.Core.Path.{_≡_, ap, subst, sym}
-use mathlib.Core.Bool.{Bool, true, false, cond}
+use mathlib.Core.Path.{_≡_, subst}
 use mathlib.Core.Logic.{⊎-elim}
 use Prim.Native.Nat.{ℕ, zero, suc, _+_, _*_, _^_, _≤_, _<_}
 use native.Mathlib.Nat.{two-pow-succ}

@@ -1,5 +1,5 @@
 -- A queue's part of its slice before and after sifting. Assumes nothing.
-use mathlib.Core.Path.{_≡_, refl, sym, ap, subst, _∙_}
+use mathlib.Core.Path.{_≡_, sym, ap, subst, _∙_}
 use mathlib.Core.Bool.{Bool, true}
 use mathlib.Core.List.{List, [], _∷_, _++_}
 use Prim.Native.Nat.{ℕ, _+_, _-_, _≤_, _<_}
@@ -8,7 +8,7 @@ use lib.ListN.{length, getD, set, take, drop}
 use Rattle.std.specs.shelf.Lists.{All}
 use Rattle.std.specs.shelf.Sorted.{Shuffled}
 use Rattle.std.proofs.shelf.Elements.{all-from-getD}
-use Rattle.std.proofs.shelf.Lists.{getD-take, getD-read, length-append, length-drop, length-take-le, take-at, drop-at, take-more, set-at}
+use Rattle.std.proofs.shelf.Lists.{getD-take, length-append, length-drop, length-take-le, take-at, drop-at, take-more, set-at}
 use Rattle.std.proofs.shelf.Sorted.{shuffled-refl, shuffled-cons, shuffled-sym, shuffled-to-front, shuffled-trans}
 use Rattle.queue.specs.Orders.{OrderLaws}
 use Rattle.queue.specs.Heaps.{parent, Heap, Holed}

@@ -1,14 +1,14 @@
 -- How a hole moves through a heap, by the laws of the order alone. Assumes nothing.
-use mathlib.Core.Path.{_≡_, sym, ap, subst, _∙_}
+use mathlib.Core.Path.{_≡_, sym, ap, _∙_}
 use mathlib.Core.Bool.{Bool, true, false}
-use mathlib.Core.List.{List, [], _∷_}
+use mathlib.Core.List.{List}
 use mathlib.Core.Logic.{_≢_, ⊎-elim}
-use Prim.Native.Nat.{ℕ, zero, suc, _+_, _-_, _*_, _/_, _≤_, _<_}
+use Prim.Native.Nat.{ℕ, zero, suc, _+_, _-_, _*_, _≤_, _<_}
 use native.Mathlib.Omega.{arith}
-use lib.ListN.{length, getD, set, take}
+use lib.ListN.{length, getD, set}
 use Rattle.std.specs.shelf.Sorted.{Shuffled}
 use Rattle.std.proofs.shelf.Edits.{exchanged-is}
-use Rattle.std.proofs.shelf.Lists.{getD-set-same, getD-set-other, getD-take, length-set, length-take-le, set-set}
+use Rattle.std.proofs.shelf.Lists.{getD-set-same, getD-set-other, length-set, set-set}
 use Rattle.std.proofs.shelf.Sorted.{shuffled-swap, shuffled-trans}
 use Rattle.std.proofs.shelf.Tests.{cases-eq, false≢true}
 use Rattle.queue.specs.Orders.{OrderLaws}

@@ -1,8 +1,7 @@
 // A priority queue over a lent slice: a binary heap, written once for every kind of entry.
 ghost use mathlib.Core.Bool.{Bool};
 ghost use mathlib.Core.Path.{_≡_};
-ghost use Prim.Native.Nat.{_+_, _-_, _≤_, _<_};
-ghost use lib.ListN.{length};
+ghost use Prim.Native.Nat.{_-_};
 ghost use Rattle.queue.specs.Orders.{OrderLaws};
 
 pub mod heap;

@@ -1,4 +1,3 @@
-use Prim.Native.Nat.{_+_, _*_, _<_}
 use native.Mathlib.Omega.{arith}
 use Rattle.board.proofs.Areas.{cell-within}
 use Rattle.measuring.proofs.offer_in_row.Needs as need

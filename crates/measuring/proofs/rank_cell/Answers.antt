@@ -1,4 +1,3 @@
-use native.Mathlib.Omega.{arith}
 use Rattle.std.proofs.shelf.Lists.{length-set}
 use Rattle.std.proofs.shelf.Bits.{div-below, mod-below}
 use Rattle.measuring.proofs.rank_cell.Needs as need

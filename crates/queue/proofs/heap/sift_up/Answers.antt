@@ -1,8 +1,7 @@
 use mathlib.Core.Path.{_≡_, refl, sym, subst, _∙_}
 use mathlib.Core.Bool.{true}
-use Prim.Native.Nat.{_-_, _/_, _<_}
+use Prim.Native.Nat.{_-_, _/_}
 use native.Mathlib.Omega.{arith}
-use lib.ListN.{length, getD, set}
 use Rattle.std.proofs.shelf.Lists.{getD-read, length-set}
 use Rattle.queue.specs.Heaps.{Above}
 use Rattle.queue.proofs.Sifting.{filled, moved-up, below-up, shuffled-moved, not-before}

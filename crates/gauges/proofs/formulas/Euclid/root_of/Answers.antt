@@ -1,7 +1,5 @@
-use mathlib.Core.Path.{_≡_, subst, sym, ap, _∙_}
-use Prim.Native.Nat.{_+_, _*_, _<_}
+use Prim.Native.Nat.{_<_}
 use native.Mathlib.Omega.{arith}
-use Rattle.gauges.specs.Rulers.{Root, euclid-square}
 use Rattle.gauges.specs.Steps.{rise}
 use Rattle.gauges.proofs.Roots.{one-root, euclid-root, steep-root}
 use Rattle.gauges.proofs.formulas.Euclid.root_of.Needs as need

@@ -1,4 +1,3 @@
-use Rattle.gauges.specs.Rulers.{euclid-square, root}
 use Rattle.gauges.proofs.Reverses.{rise-back, edge-back}
 use Rattle.gauges.proofs.formulas.EuclidFormula.the-impl.Needs as need
 
