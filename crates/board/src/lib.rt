@@ -1,4 +1,6 @@
 // What a board is made of: its size, cells, pad groups and map records, and the refusals of every call.
+#![tactic(auto)]
+
 pub mod cell;
 pub mod record;
 pub mod refusal;

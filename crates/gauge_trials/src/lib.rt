@@ -1,4 +1,6 @@
 // Tests of the rulers and layers, and gauges and a ruler as a client would write them.
+#![tactic(auto)]
+
 ghost use Rattle.std.specs.Prelude.{true, false};
 ghost use Rattle.gauge_trials.specs.Terraces.{terrace};
 ghost use Rattle.gauges.specs.Meanings.{adding};

@@ -47,11 +47,11 @@ impl<G: Gauge> Gauge for Weighting<G> {
 }
 
 impl<R: Ruler> Ruler for Weighting<R> {
-    ghost ruling = { λ w. weighted_ruling G.Length.Length.kind w.factor (R.Ruler.ruling w.gauge) };
+    ghost ruling = { λ w. weighted_ruling R.Length.kind w.factor (R.Ruler.ruling w.gauge) };
 
-    ghost ruled = { λ w. weighted_ruled G.Length.Length.kind w.factor (R.Ruler.ruling w.gauge) (R.Ruler.ruled w.gauge) };
+    ghost ruled = { λ w. weighted_ruled R.Length.kind w.factor (R.Ruler.ruling w.gauge) (R.Ruler.ruled w.gauge) };
 
-    ghost adds = { λ w. weighted_adds G.Length.Length.kind w.factor (R.Ruler.ruling w.gauge) (R.Gauge.crossing w.gauge) (R.Ruler.ruled w.gauge) (R.Ruler.adds w.gauge) };
+    ghost adds = { λ w. weighted_adds R.Length.kind w.factor (R.Ruler.ruling w.gauge) (R.Gauge.crossing w.gauge) (R.Ruler.ruled w.gauge) (R.Ruler.adds w.gauge) };
 
     fn span(&self, step: Step) -> Option<R::Length> {
         let own = self.gauge.span(step)?;

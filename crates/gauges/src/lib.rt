@@ -1,4 +1,6 @@
 // Gauges carry lengths across steps, rulers by adding each step's own length.
+#![tactic(auto)]
+
 ghost use Rattle.std.specs.Prelude.{◌≡◌};
 ghost use Rattle.gauges.specs.Meanings.{ByAdding, Crossing, Lawful, Ruling, RulerLaws, crossed, own};
 

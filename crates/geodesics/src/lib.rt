@@ -1,5 +1,7 @@
 // The theorems on measured maps, each the contract of a function. They hold over every lawful gauge, every board and every
 // group; a kind of length is the function's parameter.
+#![tactic(auto)]
+
 ghost use Rattle.geodesics.specs.Between.{GapIsLeast, OverEveryRuler, RouteIsShortest};
 ghost use Rattle.geodesics.specs.Least.{BarredEverywhere, LeastLengths, LinksAreWays, OverEveryGauge};
 ghost use Rattle.geodesics.specs.Transform.{PublishedTransform};

@@ -1,4 +1,6 @@
 // Kinds of length: a zero, an order, and a row in which tables hold a length.
+#![tactic(auto)]
+
 ghost use Rattle.std.specs.Prelude.{◌≡◌};
 ghost use Rattle.lengths.specs.Kinds.{Kind, KindLaws, Rows};
 

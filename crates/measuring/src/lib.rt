@@ -1,5 +1,7 @@
 // Measuring: the map of one group by ranking. The map holds the best offer so far to each cell that is not ranked
 // yet, with a pad that is not 0, and only an offer that improves on it is queued.
+#![tactic(auto)]
+
 ghost use Rattle.std.specs.Prelude.{◌*◌, ◌≤◌, length};
 ghost use Rattle.board.specs.Sizes.{area};
 ghost use Rattle.measuring.specs.Boards.{on};

@@ -40,12 +40,12 @@ fn offer_across<'q, G: Gauge>(
     queue: &mut Queue<'q, Offer<RowOf<G>>>,
 )
     requires within { number < length map.old }
-    requires sound { Sound (offer_le G.Length.Length.kind G.Length.Length.rows) queue.old }
+    requires sound { Sound (offer_le G.Length.kind G.Length.rows) queue.old }
     requires room { queue.old.len < length queue.old.entries.now }
-    ensures sound { Sound (offer_le G.Length.Length.kind G.Length.Length.rows) queue.new }
+    ensures sound { Sound (offer_le G.Length.kind G.Length.rows) queue.new }
     ensures few { queue.new.len ≤ queue.old.len + 1 }
     ensures room { length queue.new.entries.now ≡ length queue.old.entries.now }
-    ensures tracks { (n : ℕ) (view : ℕ → View G.Length) → number < n → 0 < from.pad → Tracks G.Length.Length.kind G.Length.Length.rows n view map.old (queued queue.old) → Tracks G.Length.Length.kind G.Length.Length.rows n (updated view number (raised G.Length.Length.kind (view number) (across (G.Gauge.crossing gauge.now) from to number))) map.new (queued queue.new) }
+    ensures tracks { (n : ℕ) (view : ℕ → View G.Length) → number < n → 0 < from.pad → Tracks G.Length.kind G.Length.rows n view map.old (queued queue.old) → Tracks G.Length.kind G.Length.rows n (updated view number (raised G.Length.kind (view number) (across (G.Gauge.crossing gauge.now) from to number))) map.new (queued queue.new) }
 {
     let step = Step { from: from.at, to };
     let Some(carried) = gauge.carry(step, from.length) else {
@@ -82,13 +82,13 @@ fn offer_at<'q, G: Gauge>(
 ) -> usize
     requires within { (area size ≤ length cells.now) × ((area size ≤ length map.old) × ((row < size.rows) × (column < size.columns))) }
     requires beside { (row ≤ from.at.row + 1) × ((from.at.row ≤ row + 1) × ((column ≤ from.at.column + 1) × (from.at.column ≤ column + 1))) }
-    requires sound { Sound (offer_le G.Length.Length.kind G.Length.Length.rows) queue.old }
+    requires sound { Sound (offer_le G.Length.kind G.Length.rows) queue.old }
     requires room { queue.old.len < length queue.old.entries.now + itself from row column }
-    ensures sound { Sound (offer_le G.Length.Length.kind G.Length.Length.rows) queue.new }
+    ensures sound { Sound (offer_le G.Length.kind G.Length.rows) queue.new }
     ensures few { (queue.new.len + itself from row column ≤ queue.old.len + 1) × (result + itself from row column ≤ 1) }
     ensures room { length queue.new.entries.now ≡ length queue.old.entries.now }
     ensures counts { (groups : List ℕ) → from.at ≡ point (on size cells.now groups) from.number → counted_before (on size cells.now groups) from.number row column + result ≡ counted_before (on size cells.now groups) from.number row (column + 1) }
-    ensures tracks { (groups : List ℕ) (group : ℕ) (view : ℕ → View G.Length) → from.at ≡ point (on size cells.now groups) from.number → 0 < from.pad → Tracks G.Length.Length.kind G.Length.Length.rows (area size) (offered_before (measuring G.Length.Length.kind (G.Gauge.crossing gauge.now) (on size cells.now groups) group) (offerer from) view row column) map.old (queued queue.old) → Tracks G.Length.Length.kind G.Length.Length.rows (area size) (offered_before (measuring G.Length.Length.kind (G.Gauge.crossing gauge.now) (on size cells.now groups) group) (offerer from) view row (column + 1)) map.new (queued queue.new) }
+    ensures tracks { (groups : List ℕ) (group : ℕ) (view : ℕ → View G.Length) → from.at ≡ point (on size cells.now groups) from.number → 0 < from.pad → Tracks G.Length.kind G.Length.rows (area size) (offered_before (measuring G.Length.kind (G.Gauge.crossing gauge.now) (on size cells.now groups) group) (offerer from) view row column) map.old (queued queue.old) → Tracks G.Length.kind G.Length.rows (area size) (offered_before (measuring G.Length.kind (G.Gauge.crossing gauge.now) (on size cells.now groups) group) (offerer from) view row (column + 1)) map.new (queued queue.new) }
 {
     let number = row as usize * size.columns as usize + column as usize;
     let cell = cells[number];
@@ -123,13 +123,13 @@ fn offer_in_row<'q, G: Gauge>(
 ) -> usize
     requires within { (area size ≤ length cells.now) × ((area size ≤ length map.old) × ((row < size.rows) × (from.at.column < size.columns))) }
     requires beside { (row ≤ from.at.row + 1) × (from.at.row ≤ row + 1) }
-    requires sound { Sound (offer_le G.Length.Length.kind G.Length.Length.rows) queue.old }
+    requires sound { Sound (offer_le G.Length.kind G.Length.rows) queue.old }
     requires room { queue.old.len + 3 ≤ length queue.old.entries.now + itself from row from.at.column }
-    ensures sound { Sound (offer_le G.Length.Length.kind G.Length.Length.rows) queue.new }
+    ensures sound { Sound (offer_le G.Length.kind G.Length.rows) queue.new }
     ensures few { (queue.new.len + itself from row from.at.column ≤ queue.old.len + 3) × (result + itself from row from.at.column ≤ 3) }
     ensures room { length queue.new.entries.now ≡ length queue.old.entries.now }
     ensures counts { (groups : List ℕ) → from.at ≡ point (on size cells.now groups) from.number → counted_before (on size cells.now groups) from.number row 0 + result ≡ counted_before (on size cells.now groups) from.number (row + 1) 0 }
-    ensures tracks { (groups : List ℕ) (group : ℕ) (view : ℕ → View G.Length) → from.at ≡ point (on size cells.now groups) from.number → 0 < from.pad → Tracks G.Length.Length.kind G.Length.Length.rows (area size) (offered_before (measuring G.Length.Length.kind (G.Gauge.crossing gauge.now) (on size cells.now groups) group) (offerer from) view row 0) map.old (queued queue.old) → Tracks G.Length.Length.kind G.Length.Length.rows (area size) (offered_before (measuring G.Length.Length.kind (G.Gauge.crossing gauge.now) (on size cells.now groups) group) (offerer from) view (row + 1) 0) map.new (queued queue.new) }
+    ensures tracks { (groups : List ℕ) (group : ℕ) (view : ℕ → View G.Length) → from.at ≡ point (on size cells.now groups) from.number → 0 < from.pad → Tracks G.Length.kind G.Length.rows (area size) (offered_before (measuring G.Length.kind (G.Gauge.crossing gauge.now) (on size cells.now groups) group) (offerer from) view row 0) map.old (queued queue.old) → Tracks G.Length.kind G.Length.rows (area size) (offered_before (measuring G.Length.kind (G.Gauge.crossing gauge.now) (on size cells.now groups) group) (offerer from) view (row + 1) 0) map.new (queued queue.new) }
 {
     let mut steps = 0;
     let (first, end) = beside(from.at.column, size.columns);
@@ -149,13 +149,13 @@ pub(crate) fn offer_around<'q, G: Gauge>(
     queue: &mut Queue<'q, Offer<RowOf<G>>>,
 ) -> usize
     requires within { (area size ≤ length cells.now) × ((area size ≤ length map.old) × ((from.at.row < size.rows) × (from.at.column < size.columns))) }
-    requires sound { Sound (offer_le G.Length.Length.kind G.Length.Length.rows) queue.old }
+    requires sound { Sound (offer_le G.Length.kind G.Length.rows) queue.old }
     requires room { queue.old.len + 8 ≤ length queue.old.entries.now }
-    ensures sound { Sound (offer_le G.Length.Length.kind G.Length.Length.rows) queue.new }
+    ensures sound { Sound (offer_le G.Length.kind G.Length.rows) queue.new }
     ensures few { (queue.new.len ≤ queue.old.len + 8) × (result ≤ 8) }
     ensures room { length queue.new.entries.now ≡ length queue.old.entries.now }
     ensures counts { (groups : List ℕ) → from.at ≡ point (on size cells.now groups) from.number → result ≡ open_neighbours (on size cells.now groups) from.number }
-    ensures tracks { (groups : List ℕ) (group : ℕ) (view : ℕ → View G.Length) → from.at ≡ point (on size cells.now groups) from.number → 0 < from.pad → Tracks G.Length.Length.kind G.Length.Length.rows (area size) view map.old (queued queue.old) → Tracks G.Length.Length.kind G.Length.Length.rows (area size) (λ j. raised G.Length.Length.kind (view j) (offer (measuring G.Length.Length.kind (G.Gauge.crossing gauge.now) (on size cells.now groups) group) (offerer from) j)) map.new (queued queue.new) }
+    ensures tracks { (groups : List ℕ) (group : ℕ) (view : ℕ → View G.Length) → from.at ≡ point (on size cells.now groups) from.number → 0 < from.pad → Tracks G.Length.kind G.Length.rows (area size) view map.old (queued queue.old) → Tracks G.Length.kind G.Length.rows (area size) (λ j. raised G.Length.kind (view j) (offer (measuring G.Length.kind (G.Gauge.crossing gauge.now) (on size cells.now groups) group) (offerer from) j)) map.new (queued queue.new) }
 {
     let mut steps = 0;
     let (first, end) = beside(from.at.row, size.rows);

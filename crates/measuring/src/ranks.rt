@@ -34,7 +34,7 @@ fn rank_cell<'q, G: Gauge>(
     ensures few { (queue.new.len ≤ queue.old.len + 8) × (result ≤ 8) }
     ensures room { length queue.new.entries.now ≡ length queue.old.entries.now }
     ensures counts { (groups : List ℕ) → result ≡ open_neighbours (on size cells.now groups) offer.cell }
-    ensures tracks { (groups : List ℕ) (group : ℕ) (view : ℕ → View G.Length) (x : Bid G.Length) → view offer.cell ≡ waiting x → G.Length.Length.rows.decode offer.length ≡ x.length → Tracks G.Length.Length.kind G.Length.Length.rows (area size) view map.old (offer ∷ queued queue.old) → Tracks G.Length.Length.kind G.Length.Length.rows (area size) (λ j. raised G.Length.Length.kind (updated view offer.cell (placed rank x) j) (offering (measuring G.Length.Length.kind (G.Gauge.crossing gauge.now) (on size cells.now groups) group) x j)) map.new (queued queue.new) }
+    ensures tracks { (groups : List ℕ) (group : ℕ) (view : ℕ → View G.Length) (x : Bid G.Length) → view offer.cell ≡ waiting x → G.Length.rows.decode offer.length ≡ x.length → Tracks G.Length.kind G.Length.rows (area size) view map.old (offer ∷ queued queue.old) → Tracks G.Length.kind G.Length.rows (area size) (λ j. raised G.Length.kind (updated view offer.cell (placed rank x) j) (offering (measuring G.Length.kind (G.Gauge.crossing gauge.now) (on size cells.now groups) group) x j)) map.new (queued queue.new) }
 {
     let number = offer.cell;
     let mut record = map[number];

@@ -1,4 +1,6 @@
 // Tests of measuring: whole maps and both counts on small boards, at the edges of what a board can be.
+#![tactic(auto)]
+
 ghost use Rattle.std.specs.Prelude.{true, false};
 ghost use Rattle.std.proofs.Common.{rules};
 

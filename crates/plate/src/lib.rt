@@ -1,4 +1,6 @@
 // The calls on a plate. A header of plain numbers moves from call to call; the tables are lent.
+#![tactic(auto)]
+
 pub mod edits;
 pub mod header;
 pub mod maps;

@@ -106,7 +106,7 @@ fn sum_at<R: Ruler>(
     number: usize,
 ) -> Option<R::Length>
     requires { (number < length first.now) × (number < length second.now) }
-    ensures { result ≡ sum_at R.Length.Length.kind R.Length.Length.rows (R.Ruler.ruling ruler.now).sum first.now second.now number }
+    ensures { result ≡ sum_at R.Length.kind R.Length.rows (R.Ruler.ruling ruler.now).sum first.now second.now number }
 {
     let a = distance_at::<R::Length>(first, number)?;
     let b = distance_at::<R::Length>(second, number)?;
@@ -132,7 +132,7 @@ fn least_sum<R: Ruler>(
     second: &[MapRecord<RowOf<R>>],
 ) -> Option<R::Length>
     requires { (area ≤ length first.now) × (area ≤ length second.now) }
-    ensures { result ≡ least_sum R.Length.Length.kind R.Length.Length.rows (R.Ruler.ruling ruler.now).sum first.now second.now area }
+    ensures { result ≡ least_sum R.Length.kind R.Length.rows (R.Ruler.ruling ruler.now).sum first.now second.now area }
 {
     let mut best = None;
     for number in 0..area {
@@ -263,7 +263,7 @@ impl Header {
         first: &[MapRecord<RowOf<R>>],
         second: &[MapRecord<RowOf<R>>],
     ) -> Result<Option<R::Length>, Refusal>
-        ensures { result ≡ gap_answer R.Length.Length.kind R.Length.Length.rows (R.Ruler.ruling ruler.now).sum self.now first.now second.now }
+        ensures { result ≡ gap_answer R.Length.kind R.Length.rows (R.Ruler.ruling ruler.now).sum self.now first.now second.now }
     {
         self.may_compare(first.len(), second.len())?;
         Ok(least_sum(ruler, self.size.area(), first, second))
@@ -333,7 +333,7 @@ impl Draft {
         first: &[MapRecord<RowOf<R>>],
         second: &[MapRecord<RowOf<R>>],
     ) -> Result<Option<R::Length>, Refusal>
-        ensures { result ≡ gap_answer R.Length.Length.kind R.Length.Length.rows (R.Ruler.ruling ruler.now).sum self.now.header first.now second.now }
+        ensures { result ≡ gap_answer R.Length.kind R.Length.rows (R.Ruler.ruling ruler.now).sum self.now.header first.now second.now }
     {
         self.header.gap(ruler, first, second)
     }

@@ -1,4 +1,6 @@
 // A priority queue over a lent slice: a binary heap, written once for every kind of entry.
+#![tactic(auto)]
+
 ghost use Rattle.std.specs.Prelude.{◌≡◌, ◌-◌, Bool};
 ghost use Rattle.queue.specs.Orders.{OrderLaws};
 

@@ -1,4 +1,6 @@
 // Tests of the priority queue: offers of a fixed generator come out in order, at both kinds of length.
+#![tactic(auto)]
+
 ghost use Rattle.queue.specs.Orders.{offer_le};
 ghost use Rattle.queue.specs.Queues.{Sound};
 

@@ -1,4 +1,5 @@
 // Tests of the readings: distance, nearest, way, gap and route on small boards, on tampered maps, and sent back.
+#![tactic(auto)]
 
 // The expected answers are worked out from the rules, and not taken from what the library answers.
 #[cfg(test)]

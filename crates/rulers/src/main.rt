@@ -1,5 +1,7 @@
 // Measures one board by each ruler and by stacks of layers over them, and prints a line for each: how many cells of
 // group 1's map are reached, the steps put to the gauge, the length of each cell, and the gap.
+#![tactic(auto)]
+
 use board::{Cell, MapRecord, Refusal};
 use gauges::{
     Chessboard, CountedChessboard, Euclid, Fence, Rectangle, Rectangles, Ruler, SentBack,

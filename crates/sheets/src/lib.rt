@@ -1,4 +1,6 @@
 // Sheets: a board as lines of text, read in place.
+#![tactic(auto)]
+
 pub mod edit;
 pub mod fault;
 pub mod lines;

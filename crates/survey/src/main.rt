@@ -1,5 +1,7 @@
 // Surveys one board: reads it as a sheet from standard input, carries out each line, measures both groups by
 // chessboard and prints a line for each action with its answer.
+#![tactic(auto)]
+
 use board::{Cell, MapRecord, Refusal};
 use gauges::{Chessboard, WholeRuler};
 use plate::Draft;

@@ -1,4 +1,6 @@
 // Small boards, read from sheets and measured by chessboard, with the answers that they should have.
+#![tactic(auto)]
+
 use board::{Cell, MapRecord, Refusal};
 use gauges::{Chessboard, WholeRuler};
 use measuring::Counts;

@@ -12,7 +12,7 @@ returns-in-default g c =
       sound = search rules;
       few = search rules;
       room = search rules;
-      tracks = λ n view lt pad t. offer_none g.met.Length.Length.lawful c.args.number _ t none;
+      tracks = λ n view lt pad t. offer_none g.met.G.Length.Length.lawful c.args.number _ t none;
     }
 
 pub returns-then-keeps : goal.returns-then-keeps
@@ -22,7 +22,7 @@ returns-then-keeps g c =
       sound = search rules;
       few = search rules;
       room = search rules;
-      tracks = λ n view lt pad t. offer_kept g.met.Length.Length.lawful c.args.number _ _ c.index-map-number.result t lt c.index-map-number.is some (sym c.keeps.ensures ∙ c.if-keeps.true);
+      tracks = λ n view lt pad t. offer_kept g.met.G.Length.Length.lawful c.args.number _ _ c.index-map-number.result t lt c.index-map-number.is some (sym c.keeps.ensures ∙ c.if-keeps.true);
     }
 
 pub returns : goal.returns
@@ -34,5 +34,5 @@ returns g c =
       room = search rules;
       tracks = λ n view lt pad t.
           let shuffled = rw c.encode-row.ensures at (pushed c.push.ensures.pushes c.requires.room) in
-          rw (c.offered.ensures ∙ ap (λ row. offered_record row c.args.from.pad c.args.from.number) c.encode-row.ensures) (offer_put g.met.Length.Length.lawful c.args.number _ _ c.index-map-number.result t lt c.requires.within c.index-map-number.is some refl pad (sym c.keeps.ensures ∙ c.if-keeps.false) shuffled);
+          rw (c.offered.ensures ∙ ap (λ row. offered_record row c.args.from.pad c.args.from.number) c.encode-row.ensures) (offer_put g.met.G.Length.Length.lawful c.args.number _ _ c.index-map-number.result t lt c.requires.within c.index-map-number.is some refl pad (sym c.keeps.ensures ∙ c.if-keeps.false) shuffled);
     }

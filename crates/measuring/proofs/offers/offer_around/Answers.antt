@@ -21,7 +21,7 @@ loop-row-init g c =
       λ groups group view at pad t.
           skipped_tracked (g.G.Gauge.crossing c.args.gauge.now) (b groups) group (offerer c.args.from) view 0 0 first 0
           (skips_above (b groups) i first (c.beside-first.ensures.0 ∙ ap (λ p. p.row - 1) at))
-          (tracks_same (λ j lt. offered_none (measuring g.Length.Length.kind (g.G.Gauge.crossing c.args.gauge.now) (b groups) group) (offerer c.args.from) view j) t),
+          (tracks_same (λ j lt. offered_none (measuring g.G.Length.Length.kind (g.G.Gauge.crossing c.args.gauge.now) (b groups) group) (offerer c.args.from) view j) t),
     )
 
 pub loop-row-preserved : goal.loop-row-preserved
@@ -48,7 +48,7 @@ returns g c =
       counts = λ groups at. c.loop-row.invariant.5 groups at ∙ counted_skips (b groups) i row 0 c.args.size.rows 0 (skips_below (b groups) i row (all ∙ ap (λ p. min (p.row + 2) c.args.size.rows) at)) ∙ counted_all (b groups) i;
       tracks = λ groups group view at pad t.
           tracks_same
-          (offered_all (measuring g.Length.Length.kind (g.G.Gauge.crossing c.args.gauge.now) (b groups) group) (offerer c.args.from) view)
+          (offered_all (measuring g.G.Length.Length.kind (g.G.Gauge.crossing c.args.gauge.now) (b groups) group) (offerer c.args.from) view)
           (skipped_tracked (g.G.Gauge.crossing c.args.gauge.now) (b groups) group (offerer c.args.from) view row 0 c.args.size.rows 0
           (skips_below (b groups) i row (all ∙ ap (λ p. min (p.row + 2) c.args.size.rows) at))
           (c.loop-row.invariant.6 groups group view at pad t));

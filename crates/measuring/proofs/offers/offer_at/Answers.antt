@@ -66,6 +66,6 @@ returns g c =
       counts = λ groups at. counted_one (b groups) i c.args.row c.args.column c.requires.within.1.1.1 on-board (opens groups at);
       tracks = λ groups group view at pad t.
           tracks_same
-          (λ j below. offered_one (measuring g.Length.Length.kind (g.G.Gauge.crossing c.args.gauge.now) (b groups) group) (offerer c.args.from) view c.args.row c.args.column _ c.requires.within.1.1.1 (across_is (b groups) i c.args.row c.args.column c.requires.within.1.1.1 g.Length.Length.kind (g.G.Gauge.crossing c.args.gauge.now) group c.args.from _ refl at (sym (ap (λ x. x.height) read)) (opens groups at)) j)
+          (λ j below. offered_one (measuring g.G.Length.Length.kind (g.G.Gauge.crossing c.args.gauge.now) (b groups) group) (offerer c.args.from) view c.args.row c.args.column _ c.requires.within.1.1.1 (across_is (b groups) i c.args.row c.args.column c.requires.within.1.1.1 g.G.Length.Length.kind (g.G.Gauge.crossing c.args.gauge.now) group c.args.from _ refl at (sym (ap (λ x. x.height) read)) (opens groups at)) j)
           (c.offer-across.ensures.tracks _ _ on-board pad t);
     }

@@ -14,7 +14,7 @@ loop-reached-init g c = (
   omega arith,
   omega arith,
   (c.args.groups.now, c.args.group, c.start.ensures.tracks),
-  λ groups group t. started _ (measuring g.Length.Length.kind (g.G.Gauge.crossing c.args.gauge.now) (on c.args.size c.args.cells.now groups) group) _ _ t,
+  λ groups group t. started _ (measuring g.G.Length.Length.kind (g.G.Gauge.crossing c.args.gauge.now) (on c.args.size c.args.cells.now groups) group) _ _ t,
 )
 
 pub take-up-requires : goal.take-up-requires
@@ -62,13 +62,13 @@ loop-reached-preserved g c =
 
 pub returns-after-loop-reached : goal.returns-after-loop-reached
 returns-after-loop-reached g c =
-    let m = measuring g.Length.Length.kind (g.G.Gauge.crossing c.args.gauge.now) (on c.args.size c.args.cells.now c.args.groups.now) c.args.group in
-    let end = finished_all _ m g.met.Length.Length.lawful _ _ _ _ (c.loop-reached.invariant.7 c.args.groups.now c.args.group c.start.ensures.tracks) (omega arith) (omega arith) in
+    let m = measuring g.G.Length.Length.kind (g.G.Gauge.crossing c.args.gauge.now) (on c.args.size c.args.cells.now c.args.groups.now) c.args.group in
+    let end = finished_all _ m g.met.G.Length.Length.lawful _ _ _ _ (c.loop-reached.invariant.7 c.args.groups.now c.args.group c.start.ensures.tracks) (omega arith) (omega arith) in
     record { map = end.map-is; reached = end.reached_is; steps = end.steps_is }
 
 pub returns-in-default : goal.returns-in-default
 returns-in-default g c =
-    let m = measuring g.Length.Length.kind (g.G.Gauge.crossing c.args.gauge.now) (on c.args.size c.args.cells.now c.args.groups.now) c.args.group in
+    let m = measuring g.G.Length.Length.kind (g.G.Gauge.crossing c.args.gauge.now) (on c.args.size c.args.cells.now c.args.groups.now) c.args.group in
     let none : c.loop-reached.queue.len ≡ 0 = c.in-default.ensures.pops.taken.0 in
-    let end = finished_empty _ m g.met.Length.Length.lawful _ _ _ _ (c.loop-reached.invariant.7 c.args.groups.now c.args.group c.start.ensures.tracks) (omega arith) (ap (λ n. take n c.loop-reached.queue.entries.now) none) (omega arith) in
+    let end = finished_empty _ m g.met.G.Length.Length.lawful _ _ _ _ (c.loop-reached.invariant.7 c.args.groups.now c.args.group c.start.ensures.tracks) (omega arith) (ap (λ n. take n c.loop-reached.queue.entries.now) none) (omega arith) in
     record { map = end.map-is; reached = end.reached_is; steps = end.steps_is }

@@ -26,8 +26,8 @@ pub returns : goal.returns
 returns g c =
     let b = on c.args.size c.args.cells.now in
     let number = c.args.offer.cell in
-    let kind = g.Length.Length.kind in
-    let rows = g.Length.Length.rows in
+    let kind = g.G.Length.Length.kind in
+    let rows = g.G.Length.Length.rows in
     let lt : number < length c.args.cells.now = omega arith in
     let read = get_or_default c.args.cells.now number _ beyond lt in
     record {

@@ -10,7 +10,7 @@ returns-then-map-offer g c = record {
   few = search rules;
   room = search rules;
   turns = λ groups group steps least ranks.
-      dropped (measuring g.Length.Length.kind (g.G.Gauge.crossing c.args.gauge.now) (on c.args.size c.args.cells.now groups) group) g.met.Length.Length.lawful c.args.rank steps _ _ c.args.offer c.index-map-offer.result ranks c.index-map-offer.is (ap (λ r. r.reached) c.index-map-offer.is ∙ c.if-map-offer.true);
+      dropped (measuring g.G.Length.Length.kind (g.G.Gauge.crossing c.args.gauge.now) (on c.args.size c.args.cells.now groups) group) g.met.G.Length.Length.lawful c.args.rank steps _ _ c.args.offer c.index-map-offer.result ranks c.index-map-offer.is (ap (λ r. r.reached) c.index-map-offer.is ∙ c.if-map-offer.true);
 }
 
 pub returns : goal.returns
@@ -19,7 +19,7 @@ returns g c = record {
   few = search rules;
   room = search rules;
   turns = λ groups group steps least ranks.
-      let m = measuring g.Length.Length.kind (g.G.Gauge.crossing c.args.gauge.now) (on c.args.size c.args.cells.now groups) group in
-      let found = taken m g.met.Length.Length.lawful c.args.rank steps _ _ c.args.offer c.index-map-offer.result ranks least c.index-map-offer.is (ap (λ r. r.reached) c.index-map-offer.is ∙ c.if-map-offer.false) in
-      ranked_one m g.met.Length.Length.lawful c.args.rank steps _ _ _ _ _ c.args.offer found.0 ranks found.1 found.3 (c.rank-cell.ensures.counts groups) (c.rank-cell.ensures.tracks groups group _ found.0 found.1 found.2 ranks.tracks);
+      let m = measuring g.G.Length.Length.kind (g.G.Gauge.crossing c.args.gauge.now) (on c.args.size c.args.cells.now groups) group in
+      let found = taken m g.met.G.Length.Length.lawful c.args.rank steps _ _ c.args.offer c.index-map-offer.result ranks least c.index-map-offer.is (ap (λ r. r.reached) c.index-map-offer.is ∙ c.if-map-offer.false) in
+      ranked_one m g.met.G.Length.Length.lawful c.args.rank steps _ _ _ _ _ c.args.offer found.0 ranks found.1 found.3 (c.rank-cell.ensures.counts groups) (c.rank-cell.ensures.tracks groups group _ found.0 found.1 found.2 ranks.tracks);
 }

@@ -10,4 +10,4 @@ pub loop-number-preserved : goal.loop-number-preserved
 unfolding least_sum
 loop-number-preserved g c =
     rw add-one
-    (c.shorter-best.ensures ∙ (λ i. least g.Length.Length.kind (c.loop-number.invariant i) (c.sum_at.ensures i)))
+    (c.shorter-best.ensures ∙ (λ i. least g.R.Length.Length.kind (c.loop-number.invariant i) (c.sum_at.ensures i)))

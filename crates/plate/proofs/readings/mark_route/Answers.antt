@@ -17,14 +17,14 @@ mark-small false = omega arith
 
 pub overflow-add-count : goal.overflow-add-count
 overflow-add-count g c =
-    let few = how_many_at_most (on_route g.Length.Length.kind g.Length.Length.rows (g.R.Ruler.ruling c.args.ruler.now).sum c.args.first.now c.args.second.now (length c.args.marks.now)) c.loop-number.number in
+    let few = how_many_at_most (on_route g.R.Length.Length.kind g.R.Length.Length.rows (g.R.Ruler.ruling c.args.ruler.now).sum c.args.first.now c.args.second.now (length c.args.marks.now)) c.loop-number.number in
     omega (arith, few, mark-small c.is-same-mark.result)
 
 pub loop-number-preserved : goal.loop-number-preserved
 loop-number-preserved g c =
-    let kind = g.Length.Length.kind in
+    let kind = g.R.Length.Length.kind in
     let number = c.loop-number.number in
-    let on = on_route kind g.Length.Length.rows (g.R.Ruler.ruling c.args.ruler.now).sum c.args.first.now c.args.second.now (length c.args.marks.now) in
+    let on = on_route kind g.R.Length.Length.rows (g.R.Ruler.ruling c.args.ruler.now).sum c.args.first.now c.args.second.now (length c.args.marks.now) in
     let same : c.is-same-mark.result ≡ on number =
     c.is-same-mark.ensures ∙ (λ i. same_length kind (c.sum_at.ensures i) (c.least-sum-gap.ensures i)) in
     let mark : bool_byte c.is-same-mark.result ≡ cond (on number) 1 0 = mark-is _ ∙ ap (λ b. cond b 1 0) same in (
@@ -35,7 +35,7 @@ loop-number-preserved g c =
 pub returns : goal.returns
 unfolding route_marks marked
 returns g c =
-    let on = on_route g.Length.Length.kind g.Length.Length.rows (g.R.Ruler.ruling c.args.ruler.now).sum c.args.first.now c.args.second.now (length c.args.marks.now) in
+    let on = on_route g.R.Length.Length.kind g.R.Length.Length.rows (g.R.Ruler.ruling c.args.ruler.now).sum c.args.first.now c.args.second.now (length c.args.marks.now) in
     let all : c.loop-number.number ≡ length c.args.marks.now = omega arith in
     record {
       marks = fill_by_all (λ k. cond (on k) 1 0) c.loop-number.marks _ 0 c.loop-number.auto.marks (λ k lt. c.loop-number.invariant.0 k (omega arith));

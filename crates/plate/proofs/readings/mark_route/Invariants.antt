@@ -6,6 +6,6 @@ use Rattle.plate.proofs.readings.mark_route.Given as goal
 -- what is marked and counted below the number
 abbrev pub invariant-loop-number : goal.invariant-loop-number
 invariant-loop-number g l =
-    let on = on_route g.Length.Length.kind g.Length.Length.rows (g.R.Ruler.ruling l.ruler).sum l.first l.second (length l.initial.marks) in
+    let on = on_route g.R.Length.Length.kind g.R.Length.Length.rows (g.R.Ruler.ruling l.ruler).sum l.first l.second (length l.initial.marks) in
     ((k : ℕ) → k < l.number → get_or l.marks k 0 ≡ cond (on k) 1 0) ×
     (l.count ≡ how_many on l.number)

@@ -3,6 +3,6 @@ use Rattle.queue.proofs.heap.replace_first.Goals as goal
 
 pub returns : goal.returns
 returns g c = record {
-  ordered = c.sift-up.ensures.ordered;
-  shuffled = IsPermutation-trans _ _ _ (c.sift-down-hole.ensures.shuffled c.args.moving) c.sift-up.ensures.shuffled;
+  ordered = c.sift_up.ensures.ordered;
+  shuffled = IsPermutation-trans _ _ _ (c.sift_down-hole.ensures.shuffled c.args.moving) c.sift_up.ensures.shuffled;
 }

@@ -3,7 +3,7 @@ use Rattle.std.proofs.lemmas.List.{get_or_read, length-set}
 use Rattle.queue.specs.Heaps.{Above}
 use Rattle.queue.proofs.Sifting.{filled, moved_up, below_up, shuffled_moved, not_before}
 use Rattle.queue.proofs.heap.sift_up.Goals as goal
-use Rattle.queue.proofs.heap.sift_up.Goals.{else-loop-hole-test, then-loop-hole-test+then-at-most}
+use Rattle.queue.proofs.heap.sift_up.Goals.{else-loop-hole-test, then-loop-hole-test+then-at_most}
 
 pub loop-hole-preserved : goal.loop-hole-preserved
 loop-hole-preserved g c =
@@ -18,7 +18,7 @@ loop-hole-preserved g c =
       length-set xs h v ∙ inv.0,
       omega (arith, length-set xs h v),
       moved_up laws xs h k v inv.1 some refl value inv.2,
-      below_up laws xs h k v inv.1 some refl value inv.2 c.args.moving (not_before laws v c.args.moving c.if-at-most.ensures),
+      below_up laws xs h k v inv.1 some refl value inv.2 c.args.moving (not_before laws v c.args.moving c.if-at_most.ensures),
       shuffled_moved xs h v _ k c.args.moving inv.1 (omega arith) (omega arith) value inv.4,
     )
 
@@ -30,7 +30,7 @@ returns g c =
     let above : Above g.O.Order.le xs h c.args.moving =
     elim c.loop-hole-test.branch [
       | else-loop-hole-test w ↦ λ d some. absurd (omega (arith, w.loop-hole-test))
-      | then-loop-hole-test+then-at-most w ↦ λ d some.
-          subst (λ y. g.O.Order.le y c.args.moving ≡ true) (get_or_read xs ((h - 1) / 2) w.index-entries-parent.result (omega arith) w.index-entries-parent.is d) (sym w.at-most.ensures ∙ w.if-at-most.true)
+      | then-loop-hole-test+then-at_most w ↦ λ d some.
+          subst (λ y. g.O.Order.le y c.args.moving ≡ true) (get_or_read xs ((h - 1) / 2) w.index-entries-parent.result (omega arith) w.index-entries-parent.is d) (sym w.at_most.ensures ∙ w.if-at_most.true)
     ] in
     record { ordered = filled g.met.O.Order.lawful xs h c.args.moving inv.1 inv.2 above inv.3; shuffled = inv.4 }

@@ -16,5 +16,5 @@ returns c =
     let step = c.args.step in
     let is = c.rise-rise.ensures.value in
     let small : rise step < 65536 = omega (arith, is, c.rise-rise.ensures.bound) in
-    let right = rw (is, c.edge_or_corner.ensures) at c.root-within.ensures in
+    let right = rw (is, c.edge_or_corner.ensures) at c.root_within.ensures in
     record { greatest = right; value = one_root right (euclid_root step small) }

@@ -5,7 +5,7 @@ use Rattle.gauges.proofs.layers.WeightingGauge.carry.Goals as goal
 pub loop-turn-preserved : goal.loop-turn-preserved
 loop-turn-preserved g c =
     weighted_again (g.G.Gauge.crossing c.args.self.now.gauge) c.args.step c.args.length c.loop-turn.carried c.loop-turn.turn c.loop-turn.invariant.0
-    c.in-ok-carried.carried (sym c.carry.ensures ∙ c.in-ok-carried.was)
+    c.in_ok-carried.carried (sym c.carry.ensures ∙ c.in_ok-carried.was)
 
 pub returns : goal.returns
 returns g c =

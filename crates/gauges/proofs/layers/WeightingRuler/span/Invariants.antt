@@ -3,4 +3,4 @@ use Rattle.gauges.specs.Layers.{times}
 use Rattle.gauges.proofs.layers.WeightingRuler.span.Given as goal
 
 abbrev pub invariant-loop-turn : goal.invariant-loop-turn
-invariant-loop-turn g l = l.sum ≡ times l.turn (λ a. (g.R.Ruler.ruling l.self.gauge).sum a l.own_val) g.row.R-Length-Length.kind.zero
+invariant-loop-turn g l = l.sum ≡ times l.turn (λ a. (g.R.Ruler.ruling l.self.gauge).sum a l.own) g.R.Length.Length.kind.zero

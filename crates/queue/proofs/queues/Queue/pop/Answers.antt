@@ -7,8 +7,8 @@ use Rattle.queue.proofs.Parts.{part_is, rest_is, room_is, holed_front, popped_of
 use Rattle.queue.proofs.queues.Queue.pop.Goals as goal
 use Rattle.queue.proofs.queues.Queue.pop.Goals.{then-len-gt0, else-len-gt0}
 
-pub replace-first-requires : goal.replace-first-requires
-replace-first-requires g c =
+pub replace_first-requires : goal.replace_first-requires
+replace_first-requires g c =
     let q = c.args.self.now in
     record {
       some = omega (arith, c.requires.within, length-take-le (q.len - 1 - 0) q.entries.now (omega (arith, c.requires.within)));
@@ -32,20 +32,20 @@ returns g c =
     let after : Sound le c.if-len-gt0.self × Pops le q c.if-len-gt0.self (Some first) =
     elim c.if-len-gt0.branch [
       | then-len-gt0 w ↦
-          let ys = w.replace-first.new.entries in
+          let ys = w.replace_first.new.entries in
           let last = w.index-self-len in
           let less : k - 0 ≡ k = omega arith in
           let within : k ≤ length xs = omega (arith, c.requires.within) in
-          let long : length ys ≡ k = w.replace-first.auto.entries ∙ length-take-le (k - 0) xs (omega arith) ∙ less in
+          let long : length ys ≡ k = w.replace_first.auto.entries ∙ length-take-le (k - 0) xs (omega arith) ∙ less in
           let new : ys ++ drop k xs ≡ ys ++ drop (k - 0) xs = ap (λ j. ys ++ drop j xs) (sym less) in
           let part : take k (ys ++ drop (k - 0) xs) ≡ ys = ap (take k) (sym new) ∙ part_is xs ys k within long in
           let room : length (ys ++ drop (k - 0) xs) ≡ length xs = ap length (sym new) ∙ room_is xs ys k within long in
-          let sifted = subst (λ j. IsPermutation (set (take j xs) 0 (get_or xs k last.result)) ys) less w.replace-first.ensures.shuffled in
+          let sifted = subst (λ j. IsPermutation (set (take j xs) 0 (get_or xs k last.result)) ys) less w.replace_first.ensures.shuffled in
           let off = popped_off xs ys n k first back c.requires.within is last.result last.is w.if-len-gt0.true
           (subst (λ y. IsPermutation (set (take k xs) 0 y) ys) (sym last.is) sifted) in (
             subst (Sound le) (sym w.self-is) (record {
               within = omega (arith, room);
-              ordered = subst (Heap le) (sym part) w.replace-first.ensures.ordered;
+              ordered = subst (Heap le) (sym part) w.replace_first.ensures.ordered;
             }),
             subst (λ q'. Pops le q q' (Some first)) (sym w.self-is) (record {
               len = refl;

@@ -6,8 +6,8 @@ use Rattle.queue.specs.Heaps.{Heap}
 use Rattle.queue.proofs.Parts.{part_is, rest_is, room_is, holed_behind, pushed_on}
 use Rattle.queue.proofs.queues.Queue.push.Goals as goal
 
-pub sift-up-requires : goal.sift-up-requires
-sift-up-requires g c =
+pub sift_up-requires : goal.sift_up-requires
+sift_up-requires g c =
     let q = c.args.self.now in
     record {
       within = omega (arith, length-take-le (q.len + 1 - 0) q.entries.now (omega arith));
@@ -20,22 +20,22 @@ returns g c =
     let q = c.args.self.now in
     let xs = q.entries.now in
     let n = q.len in
-    let ys = c.sift-up.new.entries in
+    let ys = c.sift_up.new.entries in
     let one : n + 1 - 0 ≡ n + 1 = omega arith in
     let within : n + 1 ≤ length xs = omega (arith, c.if-len-self.false) in
-    let long : length ys ≡ n + 1 = c.sift-up.auto.entries ∙ length-take-le (n + 1 - 0) xs (omega arith) ∙ one in
+    let long : length ys ≡ n + 1 = c.sift_up.auto.entries ∙ length-take-le (n + 1 - 0) xs (omega arith) ∙ one in
     let new : ys ++ drop (n + 1) xs ≡ ys ++ drop (n + 1 - 0) xs = ap (λ k. ys ++ drop k xs) (sym one) in
     let part : take (n + 1) (ys ++ drop (n + 1 - 0) xs) ≡ ys = ap (take (n + 1)) (sym new) ∙ part_is xs ys (n + 1) within long in
     let room : length (ys ++ drop (n + 1 - 0) xs) ≡ length xs = ap length (sym new) ∙ room_is xs ys (n + 1) within long in
     record {
       sound = record {
         within = omega (arith, room);
-        ordered = subst (Heap g.O.Order.le) (sym part) c.sift-up.ensures.ordered;
+        ordered = subst (Heap g.O.Order.le) (sym part) c.sift_up.ensures.ordered;
       };
       pushes = record {
         answer = sym (lt-ltb n (length xs) c.if-len-self.false);
         len = λ _. n + 1;
-        added = subst (IsPermutation (c.args.entry ∷ take n xs)) (sym part) (pushed_on xs ys n (n + 1 - 0) c.args.entry one c.if-len-self.false c.sift-up.ensures.shuffled);
+        added = subst (IsPermutation (c.args.entry ∷ take n xs)) (sym part) (pushed_on xs ys n (n + 1 - 0) c.args.entry one c.if-len-self.false c.sift_up.ensures.shuffled);
         beyond = ap (drop (n + 1)) (sym new) ∙ rest_is xs ys (n + 1) within long;
         room = room;
       };
