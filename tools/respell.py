@@ -3,7 +3,7 @@
 
 usage: python3 tools/respell.py            at the top of the repository, once, after the toolchain's own script
 
-It collects the names with a hyphen that specs/ and proofs/ declare (definitions, lemmas, records and their fields), and
+It collects the names with a hyphen that specs/ and proofs/ declare (definitions, lemmas, records and their fields; of a file of answers those that are not pub), and
 writes each anew wherever it stands in specs/, proofs/, src/ and the documents. Names that the toolchain makes, as those of
 goals, and names of its library stay. It stops, and changes nothing, where two names would fall together.
 """
@@ -16,6 +16,7 @@ NAME = r"[A-Za-z][\w']*(?:-[\w']+)+"
 DECLARED = re.compile(r"^(?:pub |abbrev |unfoldable |record )*(" + NAME + r") (?::|\(|\{)", re.M)
 FIELD = re.compile(r"^  (?:pub )?(" + NAME + r") :", re.M)
 RECORD = re.compile(r"^pub record (" + NAME + r")\b", re.M)
+PRIVATE = re.compile(r"^(?:abbrev |unfoldable )*(" + NAME + r") :", re.M)
 PLAIN = re.compile(r"^(?:pub |abbrev |unfoldable |record )*([A-Za-z][\w']*) (?::|\(|\{)", re.M)
 PLAIN_FIELD = re.compile(r"^  (?:pub )?([A-Za-z][\w']*) :", re.M)
 LIBRARY = re.compile(r"^(?:pub |ghost )*use Rattle\.(?:std|core|alloc)[\w.]*\.\{([^}]*)\}", re.M)
@@ -66,7 +67,10 @@ def main():
     for path, text in texts.items():
         for names in LIBRARY.findall(text):
             library |= {n.split(" as ")[-1].strip() for n in names.split(",")}
-        if not path.endswith(".antt") or is_made(path):
+        if not path.endswith(".antt"):
+            continue
+        if is_made(path):
+            own |= set(PRIVATE.findall(text))
             continue
         own |= set(DECLARED.findall(text)) | set(FIELD.findall(text)) | set(RECORD.findall(text))
         for name in PLAIN.findall(text) + PLAIN_FIELD.findall(text):

@@ -39,7 +39,7 @@ pub fn measure_group<G: Gauge>(
     entries: &mut [Offer<RowOf<G>>],
 ) -> Counts
     requires { (area size ≤ length cells.now) × ((area size ≤ length map.old) × (9 * area size ≤ length entries.old)) }
-    ensures { Fills Length-as-Length.rows (measuring Length-as-Length.kind (G.Gauge.crossing gauge.now) (on size cells.now groups.now) group) map.old map.new entries.old entries.new result }
+    ensures { Fills G.Length.rows (measuring G.Length.kind (G.Gauge.crossing gauge.now) (on size cells.now groups.now) group) map.old map.new entries.old entries.new result }
 {
     let area = size.area();
     let map = &mut map[0..area];

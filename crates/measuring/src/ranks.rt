@@ -28,9 +28,9 @@ fn rank_cell<'q, G: Gauge>(
     queue: &mut Queue<'q, Offer<RowOf<G>>>,
 ) -> usize
     requires within { (area size ≤ length cells.now) × ((area size ≤ length map.old) × (offer.cell < area size)) }
-    requires sound { Sound (offer_le Length-as-Length.kind Length-as-Length.rows) queue.old }
+    requires sound { Sound (offer_le G.Length.kind G.Length.rows) queue.old }
     requires room { queue.old.len + 8 ≤ length queue.old.entries.now }
-    ensures sound { Sound (offer_le Length-as-Length.kind Length-as-Length.rows) queue.new }
+    ensures sound { Sound (offer_le G.Length.kind G.Length.rows) queue.new }
     ensures few { (queue.new.len ≤ queue.old.len + 8) × (result ≤ 8) }
     ensures room { length queue.new.entries.now ≡ length queue.old.entries.now }
     ensures counts { (groups : List ℕ) → result ≡ open_neighbours (on size cells.now groups) offer.cell }
@@ -66,12 +66,12 @@ fn take_up<'q, G: Gauge>(
     queue: &mut Queue<'q, Offer<RowOf<G>>>,
 ) -> Option<usize>
     requires within { (area size ≤ length cells.now) × ((area size ≤ length map.old) × (offer.cell < area size)) }
-    requires sound { Sound (offer_le Length-as-Length.kind Length-as-Length.rows) queue.old }
+    requires sound { Sound (offer_le G.Length.kind G.Length.rows) queue.old }
     requires room { queue.old.len + 8 ≤ length queue.old.entries.now }
-    ensures sound { Sound (offer_le Length-as-Length.kind Length-as-Length.rows) queue.new }
+    ensures sound { Sound (offer_le G.Length.kind G.Length.rows) queue.new }
     ensures few { MatchOption result (queue.new.len ≤ queue.old.len) (λ steps. (queue.new.len ≤ queue.old.len + 8) × (steps ≤ 8)) }
     ensures room { length queue.new.entries.now ≡ length queue.old.entries.now }
-    ensures turns { (groups : List ℕ) (group steps : ℕ) → Turns Length-as-Length.rows (measuring Length-as-Length.kind (G.Gauge.crossing gauge.now) (on size cells.now groups) group) rank steps offer map.old (queued queue.old) result map.new (queued queue.new) }
+    ensures turns { (groups : List ℕ) (group steps : ℕ) → Turns G.Length.rows (measuring G.Length.kind (G.Gauge.crossing gauge.now) (on size cells.now groups) group) rank steps offer map.old (queued queue.old) result map.new (queued queue.new) }
 {
     if map[offer.cell].reached {
         return None;
@@ -90,11 +90,11 @@ pub(crate) fn rank_all<'q, G: Gauge>(
     queue: &mut Queue<'q, Offer<RowOf<G>>>,
 ) -> Counts
     requires within { (area size ≤ length cells.now) × (length map.old ≡ area size) }
-    requires sound { Sound (offer_le Length-as-Length.kind Length-as-Length.rows) queue.old }
+    requires sound { Sound (offer_le G.Length.kind G.Length.rows) queue.old }
     requires room { (queue.old.len ≡ 0) × (9 * area size ≤ length queue.old.entries.now) }
-    ensures map { map.new ≡ measured_map Length-as-Length.rows (measuring Length-as-Length.kind (G.Gauge.crossing gauge.now) (on size cells.now groups.now) group) }
-    ensures reached { result.reached ≡ reached_count (measuring Length-as-Length.kind (G.Gauge.crossing gauge.now) (on size cells.now groups.now) group) }
-    ensures steps { result.steps ≡ step_count (measuring Length-as-Length.kind (G.Gauge.crossing gauge.now) (on size cells.now groups.now) group) }
+    ensures map { map.new ≡ measured_map G.Length.rows (measuring G.Length.kind (G.Gauge.crossing gauge.now) (on size cells.now groups.now) group) }
+    ensures reached { result.reached ≡ reached_count (measuring G.Length.kind (G.Gauge.crossing gauge.now) (on size cells.now groups.now) group) }
+    ensures steps { result.steps ≡ step_count (measuring G.Length.kind (G.Gauge.crossing gauge.now) (on size cells.now groups.now) group) }
 {
     start::<G::Length>(size, cells, groups, group, map, queue);
     let area = size.area();

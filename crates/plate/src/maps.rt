@@ -41,7 +41,7 @@ impl Draft {
         map: &mut [MapRecord<RowOf<G>>],
         entries: &mut [Offer<RowOf<G>>],
     ) -> Result<Counts, Refusal>
-        ensures { Measures (measure_refusal self.old cells.now groups.now group (length map.old) (length entries.old)) Length-as-Length.rows (measured-by Length-as-Length.kind (G.Gauge.crossing gauge.now) (on self.old.header.size cells.now groups.now) group) self.old self.new map.old map.new entries.old entries.new result }
+        ensures { Measures (measure_refusal self.old cells.now groups.now group (length map.old) (length entries.old)) G.Length.rows (measured-by G.Length.kind (G.Gauge.crossing gauge.now) (on self.old.header.size cells.now groups.now) group) self.old self.new map.old map.new entries.old entries.new result }
     {
         self.may_measure(cells, groups, group, map.len(), entries.len())?;
         let counts = measure_group(

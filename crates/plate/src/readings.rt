@@ -159,8 +159,8 @@ fn mark_route<R: Ruler>(
     marks: &mut [u8],
 ) -> usize
     requires { (length marks.old ≤ length first.now) × (length marks.old ≤ length second.now) }
-    ensures marks { marks.new ≡ route_marks Length-as-Length.kind Length-as-Length.rows (R.Ruler.ruling ruler.now).sum first.now second.now (length marks.old) }
-    ensures count { result ≡ marked Length-as-Length.kind Length-as-Length.rows (R.Ruler.ruling ruler.now).sum first.now second.now (length marks.old) }
+    ensures marks { marks.new ≡ route_marks R.Length.kind R.Length.rows (R.Ruler.ruling ruler.now).sum first.now second.now (length marks.old) }
+    ensures count { result ≡ marked R.Length.kind R.Length.rows (R.Ruler.ruling ruler.now).sum first.now second.now (length marks.old) }
 {
     let gap = least_sum(ruler, marks.len(), first, second);
     let mut count = 0;
@@ -277,7 +277,7 @@ impl Header {
         second: &[MapRecord<RowOf<R>>],
         marks: &mut [u8],
     ) -> Result<usize, Refusal>
-        ensures { Routes Length-as-Length.kind Length-as-Length.rows (R.Ruler.ruling ruler.now).sum self.now first.now second.now marks.old marks.new result }
+        ensures { Routes R.Length.kind R.Length.rows (R.Ruler.ruling ruler.now).sum self.now first.now second.now marks.old marks.new result }
     {
         let area = self.size.area();
         if marks.len() < area {
@@ -345,7 +345,7 @@ impl Draft {
         second: &[MapRecord<RowOf<R>>],
         marks: &mut [u8],
     ) -> Result<usize, Refusal>
-        ensures { Routes Length-as-Length.kind Length-as-Length.rows (R.Ruler.ruling ruler.now).sum self.now.header first.now second.now marks.old marks.new result }
+        ensures { Routes R.Length.kind R.Length.rows (R.Ruler.ruling ruler.now).sum self.now.header first.now second.now marks.old marks.new result }
     {
         self.header.route(ruler, first, second, marks)
     }

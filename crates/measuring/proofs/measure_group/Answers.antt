@@ -7,7 +7,7 @@ pub returns : goal.returns
 returns g c =
     let part : c.area-area.result - 0 ≡ area c.args.size = omega arith in
     record {
-      map = λ i. c.rank-all.ensures.map i ++ drop (part i) c.args.map.now;
-      counts = λ i. record { reached = c.rank-all.ensures.reached i; steps = c.rank-all.ensures.steps i };
+      map = λ i. c.rank_all.ensures.map i ++ drop (part i) c.args.map.now;
+      counts = λ i. record { reached = c.rank_all.ensures.reached i; steps = c.rank_all.ensures.steps i };
       beyond = search (rules, overwrites);
     }

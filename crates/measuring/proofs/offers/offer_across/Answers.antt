@@ -1,13 +1,13 @@
-use Rattle.std.proofs.Common.{◌≡◌, sym, refl, ap, ◌∙◌, subst, rules}
+use Rattle.std.proofs.Common.{sym, refl, ap, ◌∙◌, rules}
 use Rattle.board.specs.Records.{offered_record}
 use Rattle.measuring.specs.Rankings.{offered}
-use Rattle.measuring.specs.Tracking.{Tracks, offerer, raised, updated, shown, waiting}
+use Rattle.measuring.specs.Tracking.{offerer}
 use Rattle.measuring.proofs.Tracks.{offer_kept, offer_none, offer_put, pushed}
 use Rattle.measuring.proofs.offers.offer_across.Goals as goal
 
-pub returns-in-default : goal.returns-in-default
-returns-in-default g c =
-    let none = ap (offered (offerer c.args.from) c.args.number) (sym c.carry.ensures ∙ c.in-default.is) in
+pub returns-in_default : goal.returns-in_default
+returns-in_default g c =
+    let none = ap (offered (offerer c.args.from) c.args.number) (sym c.carry.ensures ∙ c.in_default.is) in
     record {
       sound = search rules;
       few = search rules;

@@ -1,4 +1,4 @@
-use Rattle.std.proofs.Common.{◌≡◌, ◌+◌, ◌-◌, min, sym, refl, ap, ◌∙◌, arith, rules}
+use Rattle.std.proofs.Common.{◌≡◌, ◌+◌, ◌-◌, min, refl, ap, ◌∙◌, arith, rules}
 use Rattle.std.proofs.lemmas.Bool.Decides.{nat_tests}
 use Rattle.measuring.specs.Boards.{on}
 use Rattle.measuring.specs.Paths.{measuring}
@@ -31,8 +31,8 @@ loop-row-preserved g c = (
   search rules,
   grind (arith, nat_tests),
   grind (arith, nat_tests),
-  λ groups at. omega (arith, c.loop-row.invariant.5 groups at, c.offer-in-row-steps.ensures.counts groups at),
-  λ groups group view at pad t. c.offer-in-row-steps.ensures.tracks groups group view at pad (c.loop-row.invariant.6 groups group view at pad t),
+  λ groups at. omega (arith, c.loop-row.invariant.5 groups at, c.offer_in_row-steps.ensures.counts groups at),
+  λ groups group view at pad t. c.offer_in_row-steps.ensures.tracks groups group view at pad (c.loop-row.invariant.6 groups group view at pad t),
 )
 
 pub returns : goal.returns

@@ -1,4 +1,4 @@
-use Rattle.std.proofs.Common.{◌≡◌, ◌+◌, ◌-◌, min, sym, refl, ap, ◌∙◌, arith, rules}
+use Rattle.std.proofs.Common.{◌≡◌, ◌+◌, ◌-◌, min, refl, ap, ◌∙◌, arith, rules}
 use Rattle.std.proofs.lemmas.Bool.Decides.{nat_tests}
 use Rattle.measuring.specs.Boards.{on}
 use Rattle.measuring.specs.Tracking.{offerer}
@@ -25,8 +25,8 @@ loop-column-preserved g c = (
   search rules,
   grind (arith, nat_tests),
   grind (arith, nat_tests),
-  λ groups at. omega (arith, c.loop-column.invariant.5 groups at, c.offer-at-steps.ensures.counts groups at),
-  λ groups group view at pad t. c.offer-at-steps.ensures.tracks groups group view at pad (c.loop-column.invariant.6 groups group view at pad t),
+  λ groups at. omega (arith, c.loop-column.invariant.5 groups at, c.offer_at-steps.ensures.counts groups at),
+  λ groups group view at pad t. c.offer_at-steps.ensures.tracks groups group view at pad (c.loop-column.invariant.6 groups group view at pad t),
 )
 
 pub returns : goal.returns

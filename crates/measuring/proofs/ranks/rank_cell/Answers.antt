@@ -1,19 +1,18 @@
-use Rattle.std.proofs.Common.{◌≡◌, ℕ, ◌/◌, ◌%◌, ◌<◌, true, List, length, set, sym, refl, ap, ◌∙◌, subst, arith, rules}
+use Rattle.std.proofs.Common.{◌≡◌, ◌/◌, ◌%◌, ◌<◌, true, length, set, sym, ap, ◌∙◌, subst, arith, rules}
 use Rattle.std.proofs.lemmas.Nat.{div_below, mod_below}
 use Rattle.std.proofs.lemmas.List.{get_or_default, length-set}
 use Rattle.board.specs.Sizes.{area}
-use Rattle.board.specs.declared.record.MapRecord.{MapRecord}
 use Rattle.queue.specs.Queues.{queued}
-use Rattle.measuring.specs.Boards.{beyond, on, point}
+use Rattle.measuring.specs.Boards.{beyond, on}
 use Rattle.measuring.specs.Maps.{ranked_record}
 use Rattle.measuring.specs.Paths.{measuring}
-use Rattle.measuring.specs.Tracking.{Tracks, offerer, placed, raised, shown, updated, waiting}
+use Rattle.measuring.specs.Tracking.{Tracks, placed, raised, shown, updated, waiting}
 use Rattle.measuring.proofs.Tracks.{place, tracks_same}
 use Rattle.measuring.proofs.Turns.{offer_alike}
 use Rattle.measuring.proofs.ranks.rank_cell.Goals as goal
 
-pub offer-around-requires : goal.offer-around-requires
-offer-around-requires g c =
+pub offer_around-requires : goal.offer_around-requires
+offer_around-requires g c =
     let size = c.args.size in
     let cell = c.args.offer.cell in
     record {
@@ -34,7 +33,7 @@ returns g c =
       sound = search rules;
       few = search rules;
       room = search rules;
-      counts = λ groups. c.offer-around.ensures.counts groups (λ k. record { row = number / c.args.size.columns; column = number % c.args.size.columns; height = (read k).height });
+      counts = λ groups. c.offer_around.ensures.counts groups (λ k. record { row = number / c.args.size.columns; column = number % c.args.size.columns; height = (read k).height });
       tracks = λ groups group view x waits level t.
           let m = measuring kind (g.G.Gauge.crossing c.args.gauge.now) (b groups) group in
           let named = t.named number x c.requires.within.1.1 waits in
@@ -44,7 +43,7 @@ returns g c =
           let pad = ap (λ r. r.pad) known in
           tracks_same
           (λ j lt. ap (raised kind (updated view number (placed c.args.rank x) j)) (offer_alike m (record { cell = number; length = c.decode.result; pad = c.index-map-number.result.pad; link = number }) x j (sym named.0) (c.decode.ensures ∙ level) pad))
-          (c.offer-around.ensures.tracks groups group (updated view number (placed c.args.rank x))
+          (c.offer_around.ensures.tracks groups group (updated view number (placed c.args.rank x))
           (λ k. record { row = number / c.args.size.columns; column = number % c.args.size.columns; height = (read k).height })
           (omega (arith, pad, named.1))
           (subst (λ r. Tracks kind rows (area c.args.size) (updated view number (placed c.args.rank x)) (set c.args.map.now number r) (queued c.args.queue.now)) ranked (place c.args.offer c.args.rank x t (omega arith))));

@@ -1,4 +1,4 @@
-use Rattle.std.proofs.Common.{◌≡◌, sym, refl, ap, ◌∙◌, subst, arith, rules}
+use Rattle.std.proofs.Common.{ap, ◌∙◌, rules}
 use Rattle.measuring.specs.Boards.{on}
 use Rattle.measuring.specs.Paths.{measuring}
 use Rattle.measuring.proofs.Turns.{dropped, ranked_one, taken}
@@ -21,5 +21,5 @@ returns g c = record {
   turns = λ groups group steps least ranks.
       let m = measuring g.G.Length.Length.kind (g.G.Gauge.crossing c.args.gauge.now) (on c.args.size c.args.cells.now groups) group in
       let found = taken m g.met.G.Length.Length.lawful c.args.rank steps _ _ c.args.offer c.index-map-offer.result ranks least c.index-map-offer.is (ap (λ r. r.reached) c.index-map-offer.is ∙ c.if-map-offer.false) in
-      ranked_one m g.met.G.Length.Length.lawful c.args.rank steps _ _ _ _ _ c.args.offer found.0 ranks found.1 found.3 (c.rank-cell.ensures.counts groups) (c.rank-cell.ensures.tracks groups group _ found.0 found.1 found.2 ranks.tracks);
+      ranked_one m g.met.G.Length.Length.lawful c.args.rank steps _ _ _ _ _ c.args.offer found.0 ranks found.1 found.3 (c.rank_cell.ensures.counts groups) (c.rank_cell.ensures.tracks groups group _ found.0 found.1 found.2 ranks.tracks);
 }

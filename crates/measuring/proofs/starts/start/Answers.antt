@@ -10,8 +10,8 @@ pub loop-number-preserved : goal.loop-number-preserved
 loop-number-preserved g c =
     let number = c.loop-number.number in
     let within : number < length c.args.cells.now = omega arith in
-    let pad = ap (λ cell. source_pad cell c.args.groups.now c.args.group) (get_or_default c.args.cells.now number beyond _ within) ∙ sym c.source-pad-pad.ensures in
-    (search rules, search rules, search rules, search rules, c.start-cell.ensures.tracks _ (ap (begun g.K.Length.kind number) pad) c.loop-number.invariant.4)
+    let pad = ap (λ cell. source_pad cell c.args.groups.now c.args.group) (get_or_default c.args.cells.now number beyond _ within) ∙ sym c.source_pad-pad.ensures in
+    (search rules, search rules, search rules, search rules, c.start_cell.ensures.tracks _ (ap (begun g.K.Length.kind number) pad) c.loop-number.invariant.4)
 
 pub returns : goal.returns
 returns g c =

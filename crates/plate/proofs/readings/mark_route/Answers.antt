@@ -7,27 +7,27 @@ use Rattle.measuring.specs.Readings.{marked, on_route, route_marks, same_length}
 use Rattle.measuring.proofs.HowMany.{how_many_at_most}
 use Rattle.plate.proofs.readings.mark_route.Goals as goal
 
-mark-is : (b : Bool) → bool_byte b ≡ cond b 1 0
-mark-is true = refl
-mark-is false = refl
+mark_is : (b : Bool) → bool_byte b ≡ cond b 1 0
+mark_is true = refl
+mark_is false = refl
 
-mark-small : (b : Bool) → bool_byte b ≤ 1
-mark-small true = omega arith
-mark-small false = omega arith
+mark_small : (b : Bool) → bool_byte b ≤ 1
+mark_small true = omega arith
+mark_small false = omega arith
 
 pub overflow-add-count : goal.overflow-add-count
 overflow-add-count g c =
     let few = how_many_at_most (on_route g.R.Length.Length.kind g.R.Length.Length.rows (g.R.Ruler.ruling c.args.ruler.now).sum c.args.first.now c.args.second.now (length c.args.marks.now)) c.loop-number.number in
-    omega (arith, few, mark-small c.is-same-mark.result)
+    omega (arith, few, mark_small c.is_same-mark.result)
 
 pub loop-number-preserved : goal.loop-number-preserved
 loop-number-preserved g c =
     let kind = g.R.Length.Length.kind in
     let number = c.loop-number.number in
     let on = on_route kind g.R.Length.Length.rows (g.R.Ruler.ruling c.args.ruler.now).sum c.args.first.now c.args.second.now (length c.args.marks.now) in
-    let same : c.is-same-mark.result ≡ on number =
-    c.is-same-mark.ensures ∙ (λ i. same_length kind (c.sum_at.ensures i) (c.least-sum-gap.ensures i)) in
-    let mark : bool_byte c.is-same-mark.result ≡ cond (on number) 1 0 = mark-is _ ∙ ap (λ b. cond b 1 0) same in (
+    let same : c.is_same-mark.result ≡ on number =
+    c.is_same-mark.ensures ∙ (λ i. same_length kind (c.sum_at.ensures i) (c.least_sum-gap.ensures i)) in
+    let mark : bool_byte c.is_same-mark.result ≡ cond (on number) 1 0 = mark_is _ ∙ ap (λ b. cond b 1 0) same in (
       rw mark (fill_by_more (λ k. cond (on k) 1 0) c.loop-number.marks number 0 (omega arith) c.loop-number.invariant.0),
       rw add-one (λ i. c.loop-number.invariant.1 i + mark i),
     )

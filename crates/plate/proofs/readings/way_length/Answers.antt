@@ -19,22 +19,22 @@ loop-passed-preserved g c =
     let inv = c.loop-passed.invariant in
     let left = length map - (c.loop-passed.passed + 1) in
     let one_more : length map - c.loop-passed.passed ≡ suc left = omega arith in
-    let linked = c.in-ok-link.ensures in (
+    let linked = c.in_ok-link.ensures in (
       inv.0 ++ cell ∷ [],
       omega (arith, length_push inv.0 cell, inv.1),
       inv.2
           ∙ ap (λ n. following inv.0 (way_within row map n cell)) one_more
-          ∙ ap (following inv.0) (way_goes row map left cell c.in-ok-link.link linked.0 linked.1 c.if-link-cell.false)
+          ∙ ap (following inv.0) (way_goes row map left cell c.in_ok-link.link linked.0 linked.1 c.if-link-cell.false)
           ∙ following_then inv.0 cell _,
     )
 
 -- an unreached cell has no way
-pub returns-in-err-link : goal.returns-in-err-link
-returns-in-err-link g c =
+pub returns-in_err-link : goal.returns-in_err-link
+returns-in_err-link g c =
     let row = g.K.Length.rows.encode g.K.Length.kind.zero in
     let inv = c.loop-passed.invariant in
     rw c.from-residual.ensures
-    (inv.2 ∙ ap (following inv.0) (way_unreached row c.args.map.now _ c.loop-passed.cell c.in-err-link.ensures))
+    (inv.2 ∙ ap (following inv.0) (way_unreached row c.args.map.now _ c.loop-passed.cell c.in_err-link.ensures))
 
 -- at a cell that is linked to itself the way ends
 pub returns-then-link-cell : goal.returns-then-link-cell
@@ -45,7 +45,7 @@ returns-then-link-cell g c =
     let inv = c.loop-passed.invariant in
     let left = length map - (c.loop-passed.passed + 1) in
     let one_more : length map - c.loop-passed.passed ≡ suc left = omega arith in
-    let linked = c.in-ok-link.ensures in (
+    let linked = c.in_ok-link.ensures in (
       inv.0 ++ cell ∷ [],
       inv.2
           ∙ ap (λ n. following inv.0 (way_within row map n cell)) one_more

@@ -3,8 +3,8 @@ use Rattle.std.proofs.lemmas.Result.{err_from_is_err_and}
 use Rattle.plate.proofs.header.Draft.measure.Goals as goal
 
 -- sent back, so nothing was written
-pub returns-in-err-may-measure : goal.returns-in-err-may-measure
-returns-in-err-may-measure g c =
+pub returns-in_err-may_measure : goal.returns-in_err-may_measure
+returns-in_err-may_measure g c =
     let p = err_from_is_err_and c.from-residual.result c.from-residual.ensures.1 in
-    let refused = c.in-err-may-measure.ensures in
+    let refused = c.in_err-may_measure.ensures in
     record { answer = rw (p.1, p.2, refused) refl; header = rw refused refl; table = rw refused refl; beyond = rw refused refl }

@@ -11,8 +11,8 @@ use Rattle.plate.specs.declared.header.Header.{Header}
 use Rattle.plate.proofs.header.Header.way.Goals as goal
 
 -- the way in the plate's part of the map
-way-in-part : {L R : Type 0} (kind : Kind L) (rows : Rows L R) (h : Header) (map : List (MapRecord R)) (row column group room part j : ℕ) → part ≡ area h.size → j ≡ cell_at h.size row column → j < area h.size → area h.size ≤ length map → reading_refusal h (length map) row column group ≡ None → way_at kind rows (take part map) j room ≡ way_cells kind rows h map row column group room
-way-in-part kind rows h map row column group room part j whole number within long fine =
+way_in_part : {L R : Type 0} (kind : Kind L) (rows : Rows L R) (h : Header) (map : List (MapRecord R)) (row column group room part j : ℕ) → part ≡ area h.size → j ≡ cell_at h.size row column → j < area h.size → area h.size ≤ length map → reading_refusal h (length map) row column group ≡ None → way_at kind rows (take part map) j room ≡ way_cells kind rows h map row column group room
+way_in_part kind rows h map row column group room part j whole number within long fine =
     let zero = rows.encode kind.zero in
     let n = area h.size in
     let k = cell_at h.size row column in
@@ -23,7 +23,7 @@ way-in-part kind rows h map row column group room part j whole number within lon
 
 pub returns : goal.returns
 returns g c =
-    let found = c.in-ok-number.ensures in
+    let found = c.in_ok-number.ensures in
     subst (λ cells. Walks cells c.args.list.now c.walk.new.list c.walk.result)
-    (way-in-part g.K.Length.kind g.K.Length.rows c.args.self.now c.args.map.now c.args.row c.args.column c.args.group (length c.args.list.now) (c.area.result - 0) c.in-ok-number.number (omega arith) found.1 found.2 found.3 found.0)
+    (way_in_part g.K.Length.kind g.K.Length.rows c.args.self.now c.args.map.now c.args.row c.args.column c.args.group (length c.args.list.now) (c.area.result - 0) c.in_ok-number.number (omega arith) found.1 found.2 found.3 found.0)
     c.walk.ensures
