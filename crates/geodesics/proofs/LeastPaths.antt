@@ -15,7 +15,7 @@ use Rattle.measuring.specs.Paths.{Measuring, onward, Path}
 use Rattle.measuring.specs.Rankings.{Bid, start, offer, is_ranked, ranking}
 use Rattle.measuring.specs.Rules.{RanksNext}
 use Rattle.measuring.specs.Maps.{ranked_record, measured_map}
-use Rattle.measuring.specs.Ways.{at, then, way_within}
+use Rattle.measuring.specs.Ways.{then, way_within}
 use Rattle.measuring.proofs.Ranked.{start_is, best_comes, at_most_area, ranking_sound}
 use Rattle.geodesics.specs.Fitting.{Fitting}
 use Rattle.geodesics.specs.Unique.{ByRule}

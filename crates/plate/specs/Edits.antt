@@ -1,5 +1,5 @@
 -- What opening a plate and each edit answer, and what they write. Assumes nothing.
-use Rattle.std.specs.Prelude.{◌≡◌, ℕ, ◌-◌, ◌*◌, true, false, ◌||◌, List, ◌++◌, length, drop, set, replicate, Some, None, Option, Result, MatchResult, ◌==◌, nat_lt, slice_set}
+use Rattle.std.specs.Prelude.{◌≡◌, ℕ, ◌-◌, ◌*◌, true, false, ◌||◌, List, ◌++◌, length, drop, replicate, Some, None, Option, Result, MatchResult, ◌==◌, nat_lt, slice_set}
 use Rattle.board.specs.Refusals.{refuse, answered, after}
 use Rattle.board.specs.Sizes.{Sized, area, off, bad_size, cell_at}
 use Rattle.board.specs.declared.cell.Cell.{Cell}

@@ -15,8 +15,8 @@ mark_small : (b : Bool) → bool_byte b ≤ 1
 mark_small true = omega arith
 mark_small false = omega arith
 
-pub overflow-add-count : goal.overflow-add-count
-overflow-add-count g c =
+pub overflow_add-count : goal.overflow_add-count
+overflow_add-count g c =
     let few = how_many_at_most (on_route g.R.Length.Length.kind g.R.Length.Length.rows (g.R.Ruler.ruling c.args.ruler.now).sum c.args.first.now c.args.second.now (length c.args.marks.now)) c.loop-number.number in
     omega (arith, few, mark_small c.is_same-mark.result)
 

@@ -33,7 +33,7 @@ pub returns-in_err-link : goal.returns-in_err-link
 returns-in_err-link g c =
     let row = g.K.Length.rows.encode g.K.Length.kind.zero in
     let inv = c.loop-passed.invariant in
-    rw c.from-residual.ensures
+    rw c.from_residual.ensures
     (inv.2 ∙ ap (following inv.0) (way_unreached row c.args.map.now _ c.loop-passed.cell c.in_err-link.ensures))
 
 -- at a cell that is linked to itself the way ends

@@ -7,13 +7,13 @@ use Rattle.plate.proofs.readings.write_way.Goals as goal
 pub loop-place-init : goal.loop-place-init
 loop-place-init g c = (c.requires.0, c.requires.1, omega (arith, c.requires.2), inr (length c.args.map.now, c.requires.1))
 
-pub overflow-cast-cell : goal.overflow-cast-cell
-overflow-cast-cell g c =
+pub overflow_cast-cell : goal.overflow_cast-cell
+overflow_cast-cell g c =
     let inv = c.loop-place.invariant in
     omega (arith, goes_within (g.K.Length.rows.encode g.K.Length.kind.zero) c.args.map.now c.loop-place.cell inv.0 inv.3 (omega (arith, inv.2)))
 
-pub offset-bounds-map-cell : goal.offset-bounds-map-cell
-offset-bounds-map-cell g c =
+pub offset_bounds-map-cell : goal.offset_bounds-map-cell
+offset_bounds-map-cell g c =
     let inv = c.loop-place.invariant in
     omega (arith, goes_within (g.K.Length.rows.encode g.K.Length.kind.zero) c.args.map.now c.loop-place.cell inv.0 inv.3 (omega (arith, inv.2)))
 
