@@ -31,11 +31,9 @@ impl<R: Copy> MapRecord<R> {
         ensures { result ≡ offered_record length pad link }
     {
         MapRecord {
-            length,
-            reached: false,
             pad,
             link,
-            rank: 0,
+            ..MapRecord::unreached(length)
         }
     }
 }

@@ -137,6 +137,7 @@ mod tests {
     // opening clears them.
     fn check_map<G: Gauge<Length = Whole>>(
         rt: &impl Abort,
+        what: &str,
         gauge: &G,
         size: (u16, u16),
         cells: &[Cell],
@@ -147,14 +148,21 @@ mod tests {
         let mut map = [OLD; 257];
         let mut entries = [OLD_OFFER; 2305];
         let found = draft.measure(gauge, cells, &pad_groups(), 1, &mut map, &mut entries)?;
-        assert_eq!(rt; found, expected);
+        assert_eq!(rt; found, expected, "{what}");
         let area = draft.size().area();
-        assert!(rt; records.len() == area);
+        assert!(rt; records.len() == area, "{what}");
         for (number, record) in map.iter().enumerate() {
-            assert_eq!(rt; *record, records.get(number).copied().unwrap_or(OLD));
+            assert_eq!(rt;
+                *record,
+                records.get(number).copied().unwrap_or(OLD),
+                "{what}"
+            );
         }
         for offer in entries.iter().skip(9 * area) {
-            assert!(rt; offer.length == OLD_OFFER.length && offer.cell == OLD_OFFER.cell);
+            assert!(rt;
+                offer.length == OLD_OFFER.length && offer.cell == OLD_OFFER.cell,
+                "{what}"
+            );
         }
         Ok(())
     }
@@ -165,6 +173,7 @@ mod tests {
         let four = (2, 2);
         check_map(
             &rt,
+            "few cells or none are reached",
             &BY_CHESSBOARD,
             one,
             &[pad(1)],
@@ -173,6 +182,7 @@ mod tests {
         )?;
         check_map(
             &rt,
+            "few cells or none are reached",
             &BY_CHESSBOARD,
             one,
             &[BARE],
@@ -181,23 +191,23 @@ mod tests {
         )?;
         check_map(
             &rt,
+            "all barred",
             &BY_CHESSBOARD,
             four,
             &[BARRED; 4],
             counts(0, 0),
             &[UNREACHED; 4],
-        )
-        .note("all barred")?;
+        )?;
         let other = [pad(3), BARE, BARE, pad(3)];
         check_map(
             &rt,
+            "pads of group 2 only",
             &BY_CHESSBOARD,
             four,
             &other,
             counts(0, 0),
             &[UNREACHED; 4],
         )
-        .note("pads of group 2 only")
     }
 
     #[test]
@@ -211,7 +221,15 @@ mod tests {
             ranked(0, 2, 4, 4),
             ranked(0, 1, 5, 5),
         ];
-        check_map(&rt, &BY_CHESSBOARD, (2, 3), &cells, counts(6, 22), &records)
+        check_map(
+            &rt,
+            "every cell is a source",
+            &BY_CHESSBOARD,
+            (2, 3),
+            &cells,
+            counts(6, 22),
+            &records,
+        )
     }
 
     // The map of a strip of 256 cells with pad 1 on its first: each other cell links to the one before it.
@@ -233,11 +251,12 @@ mod tests {
         records
     }
 
-    fn check_strip(rt: &impl Abort, size: (u16, u16)) -> Result<(), Fail> {
+    fn check_strip(rt: &impl Abort, what: &str, size: (u16, u16)) -> Result<(), Fail> {
         let mut first = [BARE; 256];
         first[0] = pad(1);
         check_map(
             rt,
+            what,
             &BY_CHESSBOARD,
             size,
             &first,
@@ -248,6 +267,7 @@ mod tests {
         last[255] = pad(2);
         check_map(
             rt,
+            what,
             &BY_CHESSBOARD,
             size,
             &last,
@@ -258,8 +278,8 @@ mod tests {
 
     #[test]
     fn strips_are_measured_to_the_end(rt: HostRuntime) -> Result<(), Fail> {
-        check_strip(&rt, (1, 256)).note("a row")?;
-        check_strip(&rt, (256, 1)).note("a column")
+        check_strip(&rt, "a row", (1, 256))?;
+        check_strip(&rt, "a column", (256, 1))
     }
 
     // Of equal offers the one of the lowest-ranked cell counts, whatever the pads' numbers.
@@ -267,11 +287,20 @@ mod tests {
     fn equal_offers_go_by_rank(rt: HostRuntime) -> Result<(), Fail> {
         let ends = [pad(1), BARE, pad(2)];
         let records = [ranked(0, 1, 0, 0), ranked(1, 1, 0, 2), ranked(0, 2, 2, 1)];
-        check_map(&rt, &BY_CHESSBOARD, (1, 3), &ends, counts(3, 4), &records)?;
+        check_map(
+            &rt,
+            "equal offers go by rank",
+            &BY_CHESSBOARD,
+            (1, 3),
+            &ends,
+            counts(3, 4),
+            &records,
+        )?;
         let swapped = [pad(2), BARE, pad(1)];
         let records = [ranked(0, 2, 0, 0), ranked(1, 2, 0, 2), ranked(0, 1, 2, 1)];
         check_map(
             &rt,
+            "equal offers go by rank",
             &BY_CHESSBOARD,
             (1, 3),
             &swapped,
@@ -286,8 +315,14 @@ mod tests {
             ranked(1, 2, 4, 2),
             ranked(0, 2, 4, 1),
         ];
-        check_map(&rt, &BY_CHESSBOARD, (1, 5), &slopes, counts(5, 8), &records).note(
+        check_map(
+            &rt,
             "the middle links to the cell of the higher number, which was ranked first",
+            &BY_CHESSBOARD,
+            (1, 5),
+            &slopes,
+            counts(5, 8),
+            &records,
         )
     }
 
@@ -306,7 +341,15 @@ mod tests {
             ranked(1, 1, 6, 7),
             ranked(2, 2, 4, 8),
         ];
-        check_map(&rt, &BY_CHESSBOARD, (3, 3), &cells, counts(9, 40), &records)
+        check_map(
+            &rt,
+            "equal lengths go by cell number",
+            &BY_CHESSBOARD,
+            (3, 3),
+            &cells,
+            counts(9, 40),
+            &records,
+        )
     }
 
     // Two ways of length 4 lead round the barred middle to the upper left cell.
@@ -334,7 +377,15 @@ mod tests {
             ranked(1, 1, 8, 2),
             ranked(0, 1, 8, 0),
         ];
-        check_map(&rt, &BY_CHESSBOARD, (3, 3), &cells, counts(8, 24), &records)
+        check_map(
+            &rt,
+            "equal ways go by rank",
+            &BY_CHESSBOARD,
+            (3, 3),
+            &cells,
+            counts(8, 24),
+            &records,
+        )
     }
 
     // Where steps add nothing, a bare cell is ranked before a source of a higher number, which keeps its own pad.
@@ -347,7 +398,15 @@ mod tests {
             ranked(0, 1, 1, 2),
             ranked(0, 2, 3, 3),
         ];
-        check_map(&rt, &Level, (1, 4), &cells, counts(4, 6), &records)?;
+        check_map(
+            &rt,
+            "steps may add nothing",
+            &Level,
+            (1, 4),
+            &cells,
+            counts(4, 6),
+            &records,
+        )?;
         let corner = [BARE, BARE, BARE, pad(1)];
         let records = [
             ranked(0, 1, 3, 1),
@@ -355,8 +414,14 @@ mod tests {
             ranked(0, 1, 3, 3),
             ranked(0, 1, 3, 0),
         ];
-        check_map(&rt, &Level, (2, 2), &corner, counts(4, 12), &records).note(
+        check_map(
+            &rt,
             "all link to the cell of rank 0",
+            &Level,
+            (2, 2),
+            &corner,
+            counts(4, 12),
+            &records,
         )
     }
 
@@ -372,7 +437,15 @@ mod tests {
             ranked(0, 2, 4, 1),
             UNREACHED,
         ];
-        check_map(&rt, &Wall, (2, 3), &cells, counts(2, 6), &records)
+        check_map(
+            &rt,
+            "steps may all be barred",
+            &Wall,
+            (2, 3),
+            &cells,
+            counts(2, 6),
+            &records,
+        )
     }
 
     // Pad 65 and the pad in group 3 count as 0, a barred cell is no source, and cells beyond the board are not looked at.
@@ -391,6 +464,14 @@ mod tests {
             barred: true,
         };
         let cells = [pad(65), pad(4), BARE, pad(1), walled, pad(1)];
-        check_map(&rt, &BY_CHESSBOARD, (1, 5), &cells, counts(4, 6), &records)
+        check_map(
+            &rt,
+            "tampered tables are measured",
+            &BY_CHESSBOARD,
+            (1, 5),
+            &cells,
+            counts(4, 6),
+            &records,
+        )
     }
 }

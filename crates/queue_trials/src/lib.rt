@@ -57,7 +57,7 @@ fn pop_all<'q, K: Length>(queue: &mut Queue<'q, Offer<K::Row>>) -> Drained
     let mut last: Option<Offer<K::Row>> = None;
     while let Some(offer) = queue.pop::<ByLength<K>>() {
         if let Some(before) = last {
-            drained.ascending = drained.ascending && ByLengthOrder::<K>::at_most(before, offer);
+            drained.ascending = drained.ascending && <ByLength<K> as Order>::at_most(before, offer);
         }
         drained.count = drained.count.saturating_add(1);
         drained.cells = drained.cells.saturating_add(offer.cell as u64);
