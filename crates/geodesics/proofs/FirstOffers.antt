@@ -1,6 +1,6 @@
 -- The best offer to a cell is the first of the shortest. Assumes nothing.
 use Rattle.std.proofs.Common.{◌≡◌, true, false, List, [], ◌∷◌, ◌++◌, Some, None, Option, sym, refl, ap, ◌∙◌, subst, ⊎_elim, MatchOption}
-use Rattle.std.specs.List.{AllByRecursion as All}
+use Rattle.std.specs.List.{AllByRecursion}
 use Rattle.std.proofs.ByRecursion.{All-append, All-weaker}
 use Rattle.std.proofs.lemmas.List.{append_assoc, append-nil}
 use Rattle.std.proofs.lemmas.Bool.{both_ways, cases_Bool, cond-false, cond-true}
@@ -19,11 +19,11 @@ one kind (Some x) = record { before = []; behind = []; is = refl; longer = tt; a
 
 module _ {L R : Type 0} {kind : Kind L} {rows : Rows L R} (laws : KindLaws kind rows) where
   -- a shorter offer than all: those before and what was the shortest are longer
-  all_longer : (x y : Bid L) (offers : List (Bid L)) → FirstShortest kind offers x → kind.le x.length y.length ≡ false → All (λ z. kind.le z.length y.length ≡ false) offers
+  all_longer : (x y : Bid L) (offers : List (Bid L)) → FirstShortest kind offers x → kind.le x.length y.length ≡ false → AllByRecursion (λ z. kind.le z.length y.length ≡ false) offers
   all_longer x y offers first isnt =
       let still : (z : Bid L) → kind.le x.length z.length ≡ true → kind.le z.length y.length ≡ false =
       λ z le. ⊎_elim (λ is. absurd (both_ways _ isnt (laws.transitive _ _ _ le is))) (λ f. f) (cases_Bool (kind.le z.length y.length)) in
-      subst (All (λ z. kind.le z.length y.length ≡ false)) (sym first.is)
+      subst (AllByRecursion (λ z. kind.le z.length y.length ≡ false)) (sym first.is)
       (All-append _ first.before (x ∷ first.behind)
       (All-weaker _ _ (λ z longer. still z (le_since_not laws _ _ longer)) first.before first.longer)
       (isnt, All-weaker _ _ still first.behind first.as_long))

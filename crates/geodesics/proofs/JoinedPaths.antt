@@ -1,7 +1,7 @@
 -- Paths of two groups to one cell join to a path between the groups, and every path between them parts at each of its
 -- cells. Assumes nothing.
 use Rattle.std.proofs.Common.{◌≡◌, ℕ, zero, suc, List, [], ◌∷◌, Some, sym, refl, ap, ◌∙◌, subst, arith}
-use Rattle.std.specs.List.{ContainsAt as Has}
+use Rattle.std.specs.List.{ContainsAt}
 use Rattle.std.proofs.ByRecursion.{has_append_right}
 use Rattle.lengths.specs.Kinds.{Kind}
 use Rattle.gauges.specs.Meanings.{Crossing, Ruling, RulerLaws, ByAdding}
@@ -15,7 +15,7 @@ pub record BetweenThrough {L : Type 0} (m : Measuring L) (other i : ℕ) (a : L)
   pub end : ℕ
   pub cells : List ℕ
   pub path : PathBetween m other end cells a
-  pub on : Has (end ∷ cells) i
+  pub on : ContainsAt (end ∷ cells) i
 
 -- paths of both groups to the cell, whose lengths add up to this one
 pub record Parted {L : Type 0} (sum : L → L → L) (one two : Measuring L) (i : ℕ) (a : L) : Type 0 where
@@ -29,7 +29,7 @@ pub record Parted {L : Type 0} (sum : L → L → L) (one two : Measuring L) (i 
 
 module _ {L : Type 0} {kind : Kind L} {ruler : Ruling L} (laws : RulerLaws kind ruler) {g : Crossing L} (adds : ByAdding ruler g) (b : Board) (fits : Fitting b) (group other : ℕ) where
   -- the first path walks on along the second, back to its source
-  joined_on : (rest cells : List ℕ) (j : ℕ) (p q : L) (i : ℕ) → Path (measuring kind g b group) j cells p → Path (measuring kind g b other) j rest q → Has (j ∷ cells) i → BetweenThrough (measuring kind g b group) other i (ruler.sum p q)
+  joined_on : (rest cells : List ℕ) (j : ℕ) (p q : L) (i : ℕ) → Path (measuring kind g b group) j cells p → Path (measuring kind g b other) j rest q → ContainsAt (j ∷ cells) i → BetweenThrough (measuring kind g b group) other i (ruler.sum p q)
   joined_on [] cells j p q i first second on =
       let source = path_source (measuring kind g b other) j q second in
       record {
@@ -49,7 +49,7 @@ module _ {L : Type 0} {kind : Kind L} {ruler : Ruling L} (laws : RulerLaws kind 
   joined i cells rest p q first second = joined_on rest cells i p q i first second (0, omega arith, λ _. refl)
 
   -- the second path has walked back from the end of the first to j; the cell lies further back
-  parted_on : (cells rest : List ℕ) (j : ℕ) (p q : L) (i : ℕ) → Path (measuring kind g b group) j cells p → Path (measuring kind g b other) j rest q → Has (j ∷ cells) i → Parted ruler.sum (measuring kind g b group) (measuring kind g b other) i (ruler.sum p q)
+  parted_on : (cells rest : List ℕ) (j : ℕ) (p q : L) (i : ℕ) → Path (measuring kind g b group) j cells p → Path (measuring kind g b other) j rest q → ContainsAt (j ∷ cells) i → Parted ruler.sum (measuring kind g b group) (measuring kind g b other) i (ruler.sum p q)
   parted_on cells rest j p q i first second (zero, lt, is) =
       subst (λ i. Parted ruler.sum (measuring kind g b group) (measuring kind g b other) i (ruler.sum p q)) (is j)
       (record { first = p; second = q; first_cells = cells; second_cells = rest; first_path = first; second_path = second; is = refl })

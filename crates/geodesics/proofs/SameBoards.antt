@@ -1,6 +1,6 @@
 -- Boards that say the same have one map. Assumes nothing.
 use Rattle.std.proofs.Common.{◌≡◌, ℕ, zero, suc, ◌*◌, ◌/◌, ◌%◌, ◌<◌, cond, not, ◌&&◌, eqb, ltb, List, [], ◌∷◌, map, Some, None, Option, sym, refl, ap, ◌∙◌, ⊎_elim, arith}
-use Rattle.std.specs.List.{range_with_len, AllByRecursion as All}
+use Rattle.std.specs.List.{range_with_len, AllByRecursion}
 use Rattle.std.proofs.lemmas.Bool.{and_left, cases_Bool, cases_lt, cond-false, le-ltb}
 use Rattle.board.specs.Sizes.{area}
 use Rattle.board.specs.Tables.{source_pad}
@@ -67,14 +67,14 @@ module _ {L : Type 0} (m : Measuring L) (c : Board) (same : SameBoard m.group m.
       sym (cond-false (open_neighbour m.board i j) _ None apart))
       (cases_Bool (open_neighbour m.board i j))
 
-  same_best : (rs : List (Bid L)) → All (λ r. r.cell < area m.board.size) rs → (j : ℕ) → best (on m c) rs j ≡ best m rs j
+  same_best : (rs : List (Bid L)) → AllByRecursion (λ r. r.cell < area m.board.size) rs → (j : ℕ) → best (on m c) rs j ≡ best m rs j
   unfolding best
   same_best [] within j =
       ap (λ pad. cond (eqb pad 0) None (Some (record { cell = j; length = m.kind.zero; pad = pad; link = j }))) (same_source j)
   same_best (r ∷ rs) within j =
       λ k. shorter m.kind (same_best rs within.1 j k) (offered r j (same_onward r.cell j (Some r.length) within.0 k))
 
-  same_next_below : (rs : List (Bid L)) → All (λ r. r.cell < area m.board.size) rs → (n : ℕ) → next_below (on m c) rs n ≡ next_below m rs n
+  same_next_below : (rs : List (Bid L)) → AllByRecursion (λ r. r.cell < area m.board.size) rs → (n : ℕ) → next_below (on m c) rs n ≡ next_below m rs n
   unfolding next_below
   same_next_below rs within zero = refl
   same_next_below rs within (suc n) =

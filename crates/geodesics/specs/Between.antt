@@ -1,6 +1,6 @@
 -- The gap and the route over every lawful ruler, in terms of paths between the groups. Assumes nothing.
 use Rattle.std.specs.Prelude.{◌≡◌, ℕ, ◌<◌, true, List, ◌∷◌, Decides, MatchOption}
-use Rattle.std.specs.List.{ContainsAt as Has}
+use Rattle.std.specs.List.{ContainsAt}
 use Rattle.board.specs.Sizes.{area}
 use Rattle.lengths.specs.Kinds.{Kind, Rows}
 use Rattle.gauges.specs.Meanings.{ByAdding, Crossing, Ruling, RulerLaws}
@@ -24,7 +24,7 @@ pub record OnShortest {L : Type 0} (m : Measuring L) (other i : ℕ) : Type 0 wh
   pub length : L
   pub path : PathBetween m other end cells length
   pub least : (j : ℕ) (others : List ℕ) (b : L) → PathBetween m other j others b → m.kind.le length b ≡ true
-  pub on : Has (end ∷ cells) i
+  pub on : ContainsAt (end ∷ cells) i
 
 -- the gap of the two measured maps is the least length of a path between the groups, and there is none exactly when there
 -- is no such path

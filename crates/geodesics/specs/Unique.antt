@@ -1,6 +1,6 @@
 -- There is one ranking, and boards that say the same have one map. Assumes nothing.
 use Rattle.std.specs.Prelude.{◌≡◌, ℕ, ◌<◌, true, false, List, [], ◌∷◌, ◌++◌, Some, None, Option, MatchOption}
-use Rattle.std.specs.List.{AllByRecursion as All}
+use Rattle.std.specs.List.{AllByRecursion}
 use Rattle.board.specs.Sizes.{area}
 use Rattle.lengths.specs.Kinds.{Kind, Rows}
 use Rattle.measuring.specs.Boards.{Board, cell, source_of}
@@ -23,8 +23,8 @@ pub record FirstShortest {L : Type 0} (kind : Kind L) (offers : List (Bid L)) (x
   pub before : List (Bid L)
   pub behind : List (Bid L)
   pub is : offers ≡ before ++ (x ∷ behind)
-  pub longer : All (λ y. kind.le y.length x.length ≡ false) before
-  pub as_long : All (λ y. kind.le x.length y.length ≡ true) behind
+  pub longer : AllByRecursion (λ y. kind.le y.length x.length ≡ false) before
+  pub as_long : AllByRecursion (λ y. kind.le x.length y.length ≡ true) behind
 
 -- what a cell is ranked by is the first of its shortest offers: with it come the pad and the link
 abbrev pub FirstOffers : {L : Type 0} → Measuring L → Type 0

@@ -3,7 +3,7 @@ use Rattle.std.proofs.Common.{◌≡◌, ℕ, zero, suc, ◌<◌, ◌≤◌, Boo
 use mathlib.Core.List.Memᴰ.{head as first}
 use mathlib.Core.List.Memᴰ.{tail as later}
 use mathlib.Core.List.{Memᴰ as Among}
-use Rattle.std.specs.List.{AllByRecursion as All}
+use Rattle.std.specs.List.{AllByRecursion}
 use Rattle.std.proofs.lemmas.Bool.{cases_Bool, cases_eq, both_ways, eqb-false, eq-eqb, ne_eqb, or_left, cond-true, cond-false, cond_both}
 use Rattle.std.proofs.ByRecursion.{All-weaker}
 use Rattle.board.specs.Sizes.{area}
@@ -24,7 +24,7 @@ some_or_none p q = let z : ◌≡◌ {A = ℕ} 0 1 = cc in absurd (omega arith)
 pub same_some : {A : Type 0} {o : Option A} {x y : A} → o ≡ Some x → o ≡ Some y → x ≡ y
 same_some p q = cc
 
-pub all_among : {X : Type 0} (P : X → Type 0) (xs : List X) → ((x : X) → Among x xs → P x) → All P xs
+pub all_among : {X : Type 0} (P : X → Type 0) (xs : List X) → ((x : X) → Among x xs → P x) → AllByRecursion P xs
 all_among P [] each = tt
 all_among P (x ∷ xs) each = (each x (first refl), all_among P xs (λ y there. each y (later there)))
 
@@ -108,7 +108,7 @@ module _ {L : Type 0} (m : Measuring L) where
   offered_is r j (Some a) e = (a, refl, same_some e refl)
 
   -- the shortest offer is the start or one of the offers, so what holds of these holds of it
-  pub best_by : (P : Bid L → Type 0) (rs : List (Bid L)) (j : ℕ) {x : Bid L} → ((y : Bid L) → start m j ≡ Some y → P y) → All (λ r. (y : Bid L) → offer m r j ≡ Some y → P y) rs → best m rs j ≡ Some x → P x
+  pub best_by : (P : Bid L → Type 0) (rs : List (Bid L)) (j : ℕ) {x : Bid L} → ((y : Bid L) → start m j ≡ Some y → P y) → AllByRecursion (λ r. (y : Bid L) → offer m r j ≡ Some y → P y) rs → best m rs j ≡ Some x → P x
   unfolding best
   best_by P [] j starts offers e = starts _ e
   best_by P (r ∷ rs) j starts offers e = ⊎_elim (best_by P rs j starts offers.1) (offers.0 _) (shorter_either m.kind _ _ e)
@@ -125,7 +125,7 @@ module _ {L : Type 0} (m : Measuring L) where
       (λ y e. ap (λ x. x.cell) (start_is j e).1)
       (all_among _ rs (λ r _ y e. ap (λ x. x.cell) (offered_is r j _ e).2))
 
-  pub best_pad : (rs : List (Bid L)) (j : ℕ) {x : Bid L} → All (λ r. 0 < r.pad) rs → best m rs j ≡ Some x → 0 < x.pad
+  pub best_pad : (rs : List (Bid L)) (j : ℕ) {x : Bid L} → AllByRecursion (λ r. 0 < r.pad) rs → best m rs j ≡ Some x → 0 < x.pad
   best_pad rs j pads =
       best_by (λ x. 0 < x.pad) rs j
       (λ y e. omega (arith, start_is j e, ap (λ x. x.pad) (start_is j e).1))
@@ -233,12 +233,12 @@ Apart [] = Unit {0}
 Apart (r ∷ rs) = (is_ranked rs r.cell ≡ false) × Apart rs
 
 pub record SoundRanking {L : Type 0} (m : Measuring L) (rs : List (Bid L)) : Type 0 where
-  pub pads : All (λ r. 0 < r.pad) rs
-  pub within : All (λ r. r.cell < area m.board.size) rs
+  pub pads : AllByRecursion (λ r. 0 < r.pad) rs
+  pub within : AllByRecursion (λ r. r.cell < area m.board.size) rs
   pub apart : Apart rs
 
 -- each ranked cell is one of the board's cells, and counted once
-ranked_many : {L : Type 0} (rs : List (Bid L)) (n : ℕ) → All (λ r. r.cell < n) rs → Apart rs → how_many (is_ranked rs) n ≡ length rs
+ranked_many : {L : Type 0} (rs : List (Bid L)) (n : ℕ) → AllByRecursion (λ r. r.cell < n) rs → Apart rs → how_many (is_ranked rs) n ≡ length rs
 unfolding is_ranked
 ranked_many {L} [] n within apart = how_many_none (is_ranked {L = L} []) n (λ j lt. refl)
 ranked_many (r ∷ rs) n within apart =

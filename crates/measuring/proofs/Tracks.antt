@@ -1,6 +1,6 @@
 -- What an offer, a rank and a dropped entry do to the map and the queue as they are tracked. Assumes nothing.
 use Rattle.std.proofs.Common.{◌≡◌, ℕ, zero, suc, ◌+◌, ◌<◌, ◌≤◌, Bool, true, false, not, eqb, ◌⊎◌, List, ◌∷◌, length, get_or, set, Some, None, Option, sym, refl, ap, ◌∙◌, subst, inl, inr, ⊎_elim, arith}
-use Rattle.std.specs.List.{ContainsAt as Has, AllByRecursion as All}
+use Rattle.std.specs.List.{ContainsAt, AllByRecursion}
 use Rattle.std.specs.List.Sorted.{IsPermutation}
 use Rattle.std.proofs.ByRecursion.{All-weaker, all_shuffled, has_shuffled}
 use Rattle.std.proofs.lemmas.List.{get_or-set_same, get_or-set_other}
@@ -16,13 +16,13 @@ use Rattle.measuring.specs.Rankings.{Bid}
 use Rattle.measuring.specs.Tracking.{View, unknown, waiting, placed, raised, shown, entry, Owed, Tracks, updated, keeps}
 use Rattle.measuring.proofs.Ranked.{le_same, le_since_not}
 
-pub has_first : {X : Type 0} (x : X) (xs : List X) → Has (x ∷ xs) x
+pub has_first : {X : Type 0} (x : X) (xs : List X) → ContainsAt (x ∷ xs) x
 has_first x xs = (0, omega arith, λ d. refl)
 
-pub has_later : {X : Type 0} {x : X} (y : X) (xs : List X) → Has xs x → Has (y ∷ xs) x
+pub has_later : {X : Type 0} {x : X} (y : X) (xs : List X) → ContainsAt xs x → ContainsAt (y ∷ xs) x
 has_later y xs (k, lt, is) = (suc k, omega arith, is)
 
-pub has_cases : {X : Type 0} {x : X} (y : X) (xs : List X) → Has (y ∷ xs) x → (y ≡ x) ⊎ Has xs x
+pub has_cases : {X : Type 0} {x : X} (y : X) (xs : List X) → ContainsAt (y ∷ xs) x → (y ≡ x) ⊎ ContainsAt xs x
 has_cases y xs (zero, lt, is) = inl (is y)
 has_cases y xs (suc k, lt, is) = inr (k, omega arith, is)
 
@@ -57,7 +57,7 @@ module _ {L R : Type 0} {kind : Kind L} {rows : Rows L R} where
   }
 
   -- one cell is known anew: the others' records and entries stay
-  put : {n n' : ℕ} {view view' : ℕ → View L} {map : List (MapRecord R)} {es es' : List (Offer R)} (i : ℕ) → Tracks kind rows n view map es → i < length map → ((j : ℕ) → j < n' → (j ≡ i → ⊥) → (j < n) × (view j ≡ view' j)) → ((x : Bid L) → view' i ≡ waiting x → (x.cell ≡ i) × (0 < x.pad) × Has es' (entry rows x)) → ((e : Offer R) → (e.cell ≡ i → ⊥) → Has es e → Has es' e) → All (λ e. (e.cell < n') × Owed kind rows (view' e.cell) e) es' → Tracks kind rows n' view' (set map i (shown kind rows (view' i))) es'
+  put : {n n' : ℕ} {view view' : ℕ → View L} {map : List (MapRecord R)} {es es' : List (Offer R)} (i : ℕ) → Tracks kind rows n view map es → i < length map → ((j : ℕ) → j < n' → (j ≡ i → ⊥) → (j < n) × (view j ≡ view' j)) → ((x : Bid L) → view' i ≡ waiting x → (x.cell ≡ i) × (0 < x.pad) × ContainsAt es' (entry rows x)) → ((e : Offer R) → (e.cell ≡ i → ⊥) → ContainsAt es e → ContainsAt es' e) → AllByRecursion (λ e. (e.cell < n') × Owed kind rows (view' e.cell) e) es' → Tracks kind rows n' view' (set map i (shown kind rows (view' i))) es'
   put {view = view} {view' = view'} {map = map} i t within elsewhere here kept owed = record {
     records = λ j d lt.
         ⊎_elim
@@ -134,7 +134,7 @@ module _ {L R : Type 0} {kind : Kind L} {rows : Rows L R} (laws : KindLaws kind 
       (λ v. Tracks kind rows n' view' (set map i (shown kind rows v)) (entry rows x ∷ es))
       is
       (put i t within elsewhere
-      (λ y e. let same : x ≡ y = same_offer (sym is ∙ e) in subst (λ z. (z.cell ≡ i) × (0 < z.pad) × Has (entry rows x ∷ es) (entry rows z)) same (named, pad, has_first _ es))
+      (λ y e. let same : x ≡ y = same_offer (sym is ∙ e) in subst (λ z. (z.cell ≡ i) × (0 < z.pad) × ContainsAt (entry rows x ∷ es) (entry rows z)) same (named, pad, has_first _ es))
       (λ e _ had. has_later _ es had)
       ((omega arith, subst (λ v. Owed kind rows v (entry rows x)) (sym (ap view' named ∙ is)) (le_same laws (sym (laws.same x.length)))), All-weaker _ _ owed-still es t.owed))
       )

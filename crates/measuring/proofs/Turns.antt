@@ -1,6 +1,6 @@
 -- One turn of the ranking: what the entry that comes out of the queue says. Assumes nothing.
 use Rattle.std.proofs.Common.{◌≡◌, ℕ, suc, ◌+◌, ◌<◌, ◌≤◌, Bool, true, false, cond, eqb, ltb, leb, List, [], ◌∷◌, length, get_or, Some, None, sum_by, Option, sym, refl, ap, ◌∙◌, subst, ⊎_elim, add_comm, add-one, arith}
-use Rattle.std.specs.List.{ContainsAt as Has, AllByRecursion as All}
+use Rattle.std.specs.List.{ContainsAt, AllByRecursion}
 use Rattle.std.specs.List.Sorted.{IsPermutation}
 use Rattle.std.proofs.lemmas.List.FromFn.{fill_by_all}
 use Rattle.std.proofs.ByRecursion.{all-has}
@@ -97,7 +97,7 @@ module _ {L : Type 0} (m : Measuring L) where
 
 module _ {L R : Type 0} (m : Measuring L) {rows : Rows L R} (laws : KindLaws m.kind rows) where
   -- the least entry of an unranked cell is its best offer, and that cell is the next
-  pub least_is_next : (rs : List (Bid L)) (map : List (MapRecord R)) (es : List (Offer R)) (e : Offer R) (x : Bid L) → Tracks m.kind rows (area m.board.size) (standing m rs) map es → Has es e → All (λ f. offer_le m.kind rows e f ≡ true) es → standing m rs e.cell ≡ waiting x → (rows.decode e.length ≡ x.length) × (next m rs ≡ Some x)
+  pub least_is_next : (rs : List (Bid L)) (map : List (MapRecord R)) (es : List (Offer R)) (e : Offer R) (x : Bid L) → Tracks m.kind rows (area m.board.size) (standing m rs) map es → ContainsAt es e → AllByRecursion (λ f. offer_le m.kind rows e f ≡ true) es → standing m rs e.cell ≡ waiting x → (rows.decode e.length ≡ x.length) × (next m rs ≡ Some x)
   least_is_next rs map es e x t had least waits =
       let mine = all-has _ es e t.owed had in
       let named = t.named e.cell x mine.0 waits in
@@ -134,7 +134,7 @@ module _ {L R : Type 0} (m : Measuring L) {rows : Rows L R} (laws : KindLaws m.k
       (λ some. absurd (empty (t.queues j some.0 lt (standing_unranked m rs j isnt ∙ ap view_of some.1))))
       (option_cases (best m rs j))
     where
-      empty : {x : Offer R} → Has [] x → ⊥
+      empty : {x : Offer R} → ContainsAt [] x → ⊥
       empty (k, lt, is) = omega arith
 
   -- a ranked cell is marked, and no other
@@ -156,7 +156,7 @@ module _ {L R : Type 0} (m : Measuring L) {rows : Rows L R} (laws : KindLaws m.k
       go (placed n x) is = drop_first e n x ranks.tracks is
 
   -- the cell of an offer that is taken up waits, and is the next
-  pub taken : (k steps : ℕ) (map : List (MapRecord R)) (es : List (Offer R)) (e : Offer R) (r : MapRecord R) → Ranks rows m k steps map (e ∷ es) → All (λ f. offer_le m.kind rows e f ≡ true) (e ∷ es) → r ≡ get_or map e.cell r → r.reached ≡ false → (x : Bid L) × (standing m (first_ranked m k) e.cell ≡ waiting x) × (rows.decode e.length ≡ x.length) × (next m (first_ranked m k) ≡ Some x)
+  pub taken : (k steps : ℕ) (map : List (MapRecord R)) (es : List (Offer R)) (e : Offer R) (r : MapRecord R) → Ranks rows m k steps map (e ∷ es) → AllByRecursion (λ f. offer_le m.kind rows e f ≡ true) (e ∷ es) → r ≡ get_or map e.cell r → r.reached ≡ false → (x : Bid L) × (standing m (first_ranked m k) e.cell ≡ waiting x) × (rows.decode e.length ≡ x.length) × (next m (first_ranked m k) ≡ Some x)
   taken k steps map es e r ranks least read unreached = go (standing m (first_ranked m k) e.cell) refl
     where
       go : (v : View L) → standing m (first_ranked m k) e.cell ≡ v → (x : Bid L) × (standing m (first_ranked m k) e.cell ≡ waiting x) × (rows.decode e.length ≡ x.length) × (next m (first_ranked m k) ≡ Some x)

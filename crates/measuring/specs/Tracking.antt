@@ -1,6 +1,6 @@
 -- How the map and the queue hold the offers while cells are ranked. Assumes nothing.
 use Rattle.std.specs.Prelude.{◌≡◌, ℕ, ◌+◌, ◌/◌, ◌%◌, ◌<◌, Bool, true, cond, not, ◌&&◌, ◌||◌, List, [], ◌∷◌, length, Some, None, sum_by, Option, MatchOption, ◌==◌, nat_lt, slice_index_or}
-use Rattle.std.specs.List.{ContainsAt as Has, AllByRecursion as All}
+use Rattle.std.specs.List.{ContainsAt, AllByRecursion}
 use Rattle.board.specs.Records.{offered_record, unreached_record}
 use Rattle.board.specs.Sizes.{area}
 use Rattle.board.specs.Tables.{source_pad}
@@ -63,8 +63,8 @@ Owed kind rows (placed k x) e = Unit {0}
 pub record Tracks {L R : Type 0} (kind : Kind L) (rows : Rows L R) (n : ℕ) (view : ℕ → View L) (map : List (MapRecord R)) (entries : List (Offer R)) : Type 0 where
   pub records : (j : ℕ) (d : MapRecord R) → j < n → slice_index_or map j d ≡ shown kind rows (view j)
   pub named : (j : ℕ) (x : Bid L) → j < n → view j ≡ waiting x → (x.cell ≡ j) × (0 < x.pad)
-  pub queues : (j : ℕ) (x : Bid L) → j < n → view j ≡ waiting x → Has entries (entry rows x)
-  pub owed : All (λ e. (e.cell < n) × Owed kind rows (view e.cell) e) entries
+  pub queues : (j : ℕ) (x : Bid L) → j < n → view j ≡ waiting x → ContainsAt entries (entry rows x)
+  pub owed : AllByRecursion (λ e. (e.cell < n) × Owed kind rows (view e.cell) e) entries
 
 -- one cell known anew
 abbrev pub updated : {L : Type 0} → (ℕ → View L) → ℕ → View L → ℕ → View L
@@ -110,6 +110,6 @@ pub record Ranks {L R : Type 0} (rows : Rows L R) (m : Measuring L) (reached ste
 -- one turn with the least of all entries, which is taken out: its cell is the next to be ranked, or is ranked already
 abbrev pub Turns : {L R : Type 0} → Rows L R → Measuring L → ℕ → ℕ → Offer R → List (MapRecord R) → List (Offer R) → Option ℕ → List (MapRecord R) → List (Offer R) → Type 0
 Turns rows m rank steps e map entries r map' entries' =
-    All (λ f. offer_le m.kind rows e f ≡ true) (e ∷ entries) →
+    AllByRecursion (λ f. offer_le m.kind rows e f ≡ true) (e ∷ entries) →
     Ranks rows m rank steps map (e ∷ entries) →
     MatchOption r (Ranks rows m rank steps map' entries') (λ more. Ranks rows m (rank + 1) (steps + more) map' entries')

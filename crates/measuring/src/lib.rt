@@ -2,7 +2,7 @@
 // yet, with a pad that is not 0, and only an offer that improves on it is queued.
 #![tactic(auto)]
 
-ghost use Rattle.std.specs.Prelude.{◌*◌, ◌≤◌, length};
+ghost use Rattle.std.specs.Prelude.{◌≡◌, ◌*◌, ◌≤◌, length, drop};
 ghost use Rattle.board.specs.Sizes.{area};
 ghost use Rattle.measuring.specs.Boards.{on};
 ghost use Rattle.measuring.specs.Maps.{Fills};
@@ -39,7 +39,10 @@ pub fn measure_group<G: Gauge>(
     entries: &mut [Offer<RowOf<G>>],
 ) -> Counts
     requires { (area size ≤ length cells.now) × ((area size ≤ length map.old) × (9 * area size ≤ length entries.old)) }
-    ensures { Fills G.Length.rows (measuring G.Length.kind (G.Gauge.crossing gauge.now) (on size cells.now groups.now) group) map.old map.new entries.old entries.new result }
+    ensures bound { result.reached ≤ area size }
+    ensures map_beyond { drop (area size) map.new ≡ drop (area size) map.old }
+    ensures entries_beyond { drop (9 * area size) entries.new ≡ drop (9 * area size) entries.old }
+    ensures fills { Fills G.Length.rows (measuring G.Length.kind (G.Gauge.crossing gauge.now) (on size cells.now groups.now) group) map.old map.new entries.old entries.new result }
 {
     let area = size.area();
     let map = &mut map[0..area];

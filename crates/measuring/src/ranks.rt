@@ -92,6 +92,7 @@ pub(crate) fn rank_all<'q, G: Gauge>(
     requires within { (area size ≤ length cells.now) × (length map.old ≡ area size) }
     requires sound { Sound (offer_le G.Length.kind G.Length.rows) queue.old }
     requires room { (queue.old.len ≡ 0) × (9 * area size ≤ length queue.old.entries.now) }
+    ensures bound { result.reached ≤ area size }
     ensures map { map.new ≡ measured_map G.Length.rows (measuring G.Length.kind (G.Gauge.crossing gauge.now) (on size cells.now groups.now) group) }
     ensures reached { result.reached ≡ reached_count (measuring G.Length.kind (G.Gauge.crossing gauge.now) (on size cells.now groups.now) group) }
     ensures steps { result.steps ≡ step_count (measuring G.Length.kind (G.Gauge.crossing gauge.now) (on size cells.now groups.now) group) }

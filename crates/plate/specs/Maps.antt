@@ -1,5 +1,5 @@
--- When measuring is sent back, and what it does. Assumes nothing.
-use Rattle.std.specs.Prelude.{◌≡◌, ℕ, ◌*◌, not, ◌||◌, List, length, drop, Some, None, Option, Result, ◌==◌, nat_lt}
+-- When measuring is sent back, what it does, and what it leaves alone. Assumes nothing.
+use Rattle.std.specs.Prelude.{◌≡◌, ℕ, ◌*◌, ◌≤◌, not, ◌||◌, List, length, drop, Some, None, Option, MatchResult, Result, ◌==◌, nat_lt}
 use Rattle.board.specs.Refusals.{refuse, after, answering}
 use Rattle.board.specs.Sizes.{area}
 use Rattle.board.specs.declared.cell.Cell.{Cell}
@@ -34,9 +34,14 @@ abbrev pub Kept : {X : Type 0} → Option Refusal → ℕ → List X → List X 
 Kept None n old new = drop n new ≡ drop n old
 Kept (Some e) n old new = new ≡ old
 
--- what measuring a group does: its answer, the header, the group's map and the queue's entries afterwards
-pub record Measures {L R E : Type 0} (refused : Option Refusal) (rows : Rows L R) (m : Measuring L) (d d' : Draft) (map map' : List (MapRecord R)) (entries entries' : List E) (r : Result Counts Refusal) : Type 0 where
+-- what measuring a group of n cells does, whatever its map is
+pub record Measures {X Y : Type 0} (refused : Option Refusal) (group n : ℕ) (d d' : Draft) (map map' : List X) (entries entries' : List Y) (r : Result Counts Refusal) : Type 0 where
+  pub answer : MatchResult r (λ counts. (refused ≡ None) × (counts.reached ≤ n)) (λ e. refused ≡ Some e)
+  pub header : d' ≡ after refused d (measured group d)
+  pub map_beyond : Kept refused n map map'
+  pub entries_beyond : Kept refused (9 * n) entries entries'
+
+-- what measuring a group answers and writes: its two counts, and its map
+pub record MeasuresMap {L R : Type 0} (refused : Option Refusal) (rows : Rows L R) (m : Measuring L) (map map' : List (MapRecord R)) (r : Result Counts Refusal) : Type 0 where
   pub answer : r ≡ answering refused (counts_of m)
-  pub header : d' ≡ after refused d (measured m.group d)
   pub table : map' ≡ after refused map (filled rows m map)
-  pub beyond : Kept refused (9 * area m.board.size) entries entries'

@@ -1,8 +1,9 @@
 // Measuring a group's map.
 ghost use Rattle.std.specs.Prelude.{◌≡◌, length, Some, None, MatchResult};
+ghost use Rattle.board.specs.Sizes.{area};
 ghost use Rattle.measuring.specs.Boards.{on};
-ghost use Rattle.measuring.specs.Paths.{measuring as measured-by};
-ghost use Rattle.plate.specs.Maps.{Measures, measure_refusal};
+ghost use Rattle.measuring.specs.Paths.{measuring as measured_by};
+ghost use Rattle.plate.specs.Maps.{Measures, MeasuresMap, measure_refusal};
 
 use crate::Draft;
 use board::{Cell, MapRecord, Refusal};
@@ -41,7 +42,8 @@ impl Draft {
         map: &mut [MapRecord<RowOf<G>>],
         entries: &mut [Offer<RowOf<G>>],
     ) -> Result<Counts, Refusal>
-        ensures { Measures (measure_refusal self.old cells.now groups.now group (length map.old) (length entries.old)) G.Length.rows (measured-by G.Length.kind (G.Gauge.crossing gauge.now) (on self.old.header.size cells.now groups.now) group) self.old self.new map.old map.new entries.old entries.new result }
+        ensures measures { let refused = measure_refusal self.old cells.now groups.now group (length map.old) (length entries.old) in Measures refused group (area self.old.header.size) self.old self.new map.old map.new entries.old entries.new result }
+        ensures exact { let refused = measure_refusal self.old cells.now groups.now group (length map.old) (length entries.old) in MeasuresMap refused G.Length.rows (measured_by G.Length.kind (G.Gauge.crossing gauge.now) (on self.old.header.size cells.now groups.now) group) map.old map.new result }
     {
         self.may_measure(cells, groups, group, map.len(), entries.len())?;
         let counts = measure_group(

@@ -333,7 +333,8 @@ impl Draft {
         first: &[MapRecord<RowOf<R>>],
         second: &[MapRecord<RowOf<R>>],
     ) -> Result<Option<R::Length>, Refusal>
-        ensures { result ≡ gap_answer R.Length.kind R.Length.rows (R.Ruler.ruling ruler.now).sum self.now.header first.now second.now }
+        ensures answer { MatchResult result (λ _. gap_refusal self.now.header (length first.now) (length second.now) ≡ None) (λ e. gap_refusal self.now.header (length first.now) (length second.now) ≡ Some e) }
+        ensures exact { result ≡ gap_answer R.Length.kind R.Length.rows (R.Ruler.ruling ruler.now).sum self.now.header first.now second.now }
     {
         self.header.gap(ruler, first, second)
     }

@@ -1,6 +1,6 @@
 -- A queue's part of its slice before and after sifting. Assumes nothing.
 use Rattle.std.proofs.Common.{◌≡◌, ℕ, ◌+◌, ◌<◌, ◌≤◌, Bool, true, List, [], ◌∷◌, ◌++◌, length, get_or, take, drop, set, sym, ap, ◌∙◌, subst, arith}
-use Rattle.std.specs.List.{AllByRecursion as All}
+use Rattle.std.specs.List.{AllByRecursion}
 use Rattle.std.specs.List.Sorted.{IsPermutation}
 use Rattle.std.proofs.ByRecursion.{All-from_get_or}
 use Rattle.std.proofs.lemmas.List.{get_or-take, length-append, length-drop, length-take-le, take_at, drop_at, take_more, set_at}
@@ -79,7 +79,7 @@ module _ {E : Type 0} (xs ys : List E) (n m : ℕ) (first : E) (one : n ≡ m + 
       subst (λ l. IsPermutation (take n xs) (first ∷ l)) (sym empty)
       (subst (λ l. IsPermutation l (first ∷ [])) (sym (ends first at ∙ ap (λ l. l ++ first ∷ []) empty)) (IsPermutation-refl (first ∷ [])))
 
-  pub least_of : {le : E → E → Bool} → OrderLaws le → Heap le (take n xs) → All (λ y. le first y ≡ true) (take n xs)
+  pub least_of : {le : E → E → Bool} → OrderLaws le → Heap le (take n xs) → AllByRecursion (λ y. le first y ≡ true) (take n xs)
   least_of {le} laws heap =
       let front : first ≡ get_or (take n xs) 0 first = is ∙ sym (get_or-take n xs 0 first (omega arith)) in
       All-from_get_or (λ y. le first y ≡ true) (take n xs) first

@@ -1,6 +1,6 @@
 -- What a queue holds, and what push and pop do. Assumes nothing.
 use Rattle.std.specs.Prelude.{◌≡◌, ◌+◌, ◌-◌, ◌<◌, ◌≤◌, Bool, true, cond, List, ◌∷◌, length, take, drop, MatchBool, Option, MatchOption, nat_lt}
-use Rattle.std.specs.List.{AllByRecursion as All}
+use Rattle.std.specs.List.{AllByRecursion}
 use Rattle.std.specs.List.Sorted.{IsPermutation}
 use Rattle.queue.specs.Heaps.{Heap}
 use Rattle.queue.specs.declared.queues.Queue.{Queue}
@@ -25,6 +25,6 @@ pub record Pushes {E : Type 0} (q : Queue E) (x : E) (q' : Queue E) (r : Bool) :
 -- a pop takes out exactly one entry, which is at most every other, or answers none where there is none
 pub record Pops {E : Type 0} (le : E → E → Bool) (q q' : Queue E) (r : Option E) : Type 0 where
   pub len : q'.len ≡ q.len - 1
-  pub taken : MatchOption r ((q.len ≡ 0) × (q'.entries.now ≡ q.entries.now)) (λ x. (0 < q.len) × IsPermutation (queued q) (x ∷ queued q') × All (λ y. le x y ≡ true) (queued q))
+  pub taken : MatchOption r ((q.len ≡ 0) × (q'.entries.now ≡ q.entries.now)) (λ x. (0 < q.len) × IsPermutation (queued q) (x ∷ queued q') × AllByRecursion (λ y. le x y ≡ true) (queued q))
   pub beyond : drop q'.len q'.entries.now ≡ drop q'.len q.entries.now
   pub room : length q'.entries.now ≡ length q.entries.now

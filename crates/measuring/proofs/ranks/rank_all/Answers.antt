@@ -64,11 +64,11 @@ pub returns-after-loop-reached : goal.returns-after-loop-reached
 returns-after-loop-reached g c =
     let m = measuring g.G.Length.Length.kind (g.G.Gauge.crossing c.args.gauge.now) (on c.args.size c.args.cells.now c.args.groups.now) c.args.group in
     let end = finished_all _ m g.met.G.Length.Length.lawful _ _ _ _ (c.loop-reached.invariant.7 c.args.groups.now c.args.group c.start.ensures.tracks) (omega arith) (omega arith) in
-    record { map = end.map_is; reached = end.reached_is; steps = end.steps_is }
+    record { bound = omega arith; map = end.map_is; reached = end.reached_is; steps = end.steps_is }
 
 pub returns-in_default : goal.returns-in_default
 returns-in_default g c =
     let m = measuring g.G.Length.Length.kind (g.G.Gauge.crossing c.args.gauge.now) (on c.args.size c.args.cells.now c.args.groups.now) c.args.group in
     let none : c.loop-reached.queue.len ≡ 0 = c.in_default.ensures.pops.taken.0 in
     let end = finished_empty _ m g.met.G.Length.Length.lawful _ _ _ _ (c.loop-reached.invariant.7 c.args.groups.now c.args.group c.start.ensures.tracks) (omega arith) (ap (λ n. take n c.loop-reached.queue.entries.now) none) (omega arith) in
-    record { map = end.map_is; reached = end.reached_is; steps = end.steps_is }
+    record { bound = omega arith; map = end.map_is; reached = end.reached_is; steps = end.steps_is }

@@ -7,4 +7,7 @@ pub returns-in_err-may_measure : goal.returns-in_err-may_measure
 returns-in_err-may_measure g c =
     let p = err_from_is_err_and c.from_residual.result c.from_residual.ensures.1 in
     let refused = c.in_err-may_measure.ensures in
-    record { answer = rw (p.1, p.2, refused) refl; header = rw refused refl; table = rw refused refl; beyond = rw refused refl }
+    record {
+      measures = record { answer = rw (p.1, p.2) refused; header = rw refused refl; map_beyond = rw refused refl; entries_beyond = rw refused refl };
+      exact = record { answer = rw (p.1, p.2, refused) refl; table = rw refused refl };
+    }
