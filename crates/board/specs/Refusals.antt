@@ -30,7 +30,8 @@ answering (Some e) x = Err e
 
 -- what a call answers that has nothing else to say
 abbrev pub answered : Option Refusal → Result Unit Refusal
-answered refused = answering refused tt
+answered None = Ok tt
+answered (Some e) = Err e
 
 -- what a table or a header is after a call: as it was where the call was sent back
 abbrev pub after : {X : Type 0} → Option Refusal → X → X → X

@@ -1,4 +1,4 @@
--- When measuring is sent back, what it does, and what it leaves alone. Assumes nothing.
+-- When measuring and the gap are sent back, and what measuring does and leaves alone. Assumes nothing.
 use Rattle.std.specs.Prelude.{◌≡◌, ℕ, ◌*◌, ◌≤◌, not, ◌||◌, List, length, drop, Some, None, Option, MatchResult, Result, ◌==◌, nat_lt}
 use Rattle.board.specs.Refusals.{refuse, after, answering}
 use Rattle.board.specs.Sizes.{area}
@@ -45,3 +45,10 @@ pub record Measures {X Y : Type 0} (refused : Option Refusal) (group n : ℕ) (d
 pub record MeasuresMap {L R : Type 0} (refused : Option Refusal) (rows : Rows L R) (m : Measuring L) (map map' : List (MapRecord R)) (r : Result Counts Refusal) : Type 0 where
   pub answer : r ≡ answering refused (counts_of m)
   pub table : map' ≡ after refused map (filled rows m map)
+
+-- over the lengths of the two maps; both have to be current
+abbrev pub gap_refusal : Draft → ℕ → ℕ → Option Refusal
+gap_refusal d first second =
+    let n = area d.header.size in
+    refuse (nat_lt first n || nat_lt second n) refusal.Tables
+    (refuse (not d.header.first || not d.header.second) refusal.Outdated None)

@@ -65,20 +65,20 @@ pub record Walks (cells : Result (List ℕ) Refusal) (list list' : List ℕ) (r 
   pub table : list' ≡ written cells list
 
 -- over the lengths of the two maps; both have to be current
-abbrev pub gap_refusal : Header → ℕ → ℕ → Option Refusal
-gap_refusal h first second =
+abbrev pub compare_refusal : Header → ℕ → ℕ → Option Refusal
+compare_refusal h first second =
     refuse (nat_lt first (area h.size) || nat_lt second (area h.size)) refusal.Tables
     (refuse (not h.first || not h.second) refusal.Outdated None)
 
 -- what gap answers: the least sum of a cell's two distances, or none
 abbrev pub gap_answer : {L R : Type 0} → Kind L → Rows L R → (L → L → L) → Header → List (MapRecord R) → List (MapRecord R) → Result (Option L) Refusal
 gap_answer kind rows sum h first second =
-    answering (gap_refusal h (length first) (length second)) (least_sum kind rows sum first second (area h.size))
+    answering (compare_refusal h (length first) (length second)) (least_sum kind rows sum first second (area h.size))
 
 -- over the lengths of the two maps and of the marks
 abbrev pub route_refusal : Header → ℕ → ℕ → ℕ → Option Refusal
 route_refusal h first second marks =
-    refuse (nat_lt marks (area h.size)) refusal.Tables (gap_refusal h first second)
+    refuse (nat_lt marks (area h.size)) refusal.Tables (compare_refusal h first second)
 
 -- what route does: its answer, and the marks afterwards
 pub record Routes {L R : Type 0} (kind : Kind L) (rows : Rows L R) (sum : L → L → L) (h : Header) (first second : List (MapRecord R)) (marks marks' : List ℕ) (r : Result ℕ Refusal) : Type 0 where

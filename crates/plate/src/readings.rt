@@ -3,7 +3,8 @@ ghost use Rattle.std.specs.Prelude.{◌≡◌, ℕ, ◌<◌, ◌≤◌, true, fa
 ghost use Rattle.board.specs.Sizes.{area, cell_at};
 ghost use Rattle.measuring.specs.Readings.{distance_at, least, least_sum, marked, nearest_at, route_marks, same_length, sum_at};
 ghost use Rattle.measuring.specs.Ways.{at};
-ghost use Rattle.plate.specs.Readings.{Routes, Walks, current, distance_answer, gap_answer, gap_refusal, nearest_answer, reading_refusal, way_cells};
+ghost use Rattle.plate.specs.Maps.{gap_refusal};
+ghost use Rattle.plate.specs.Readings.{Routes, Walks, compare_refusal, current, distance_answer, gap_answer, nearest_answer, reading_refusal, way_cells};
 ghost use Rattle.plate.specs.Walks.{way_at, way_on};
 
 use crate::{Draft, Header};
@@ -244,7 +245,7 @@ impl Header {
 
     // Both maps have to be long enough and current.
     fn may_compare(&self, first: usize, second: usize) -> Result<(), Refusal>
-        ensures { MatchResult result (λ _. (gap_refusal self.now first second ≡ None) × (area self.now.size ≤ first) × (area self.now.size ≤ second)) (λ e. gap_refusal self.now first second ≡ Some e) }
+        ensures { MatchResult result (λ _. (compare_refusal self.now first second ≡ None) × (area self.now.size ≤ first) × (area self.now.size ≤ second)) (λ e. compare_refusal self.now first second ≡ Some e) }
     {
         let area = self.size.area();
         if first < area || second < area {
@@ -333,7 +334,7 @@ impl Draft {
         first: &[MapRecord<RowOf<R>>],
         second: &[MapRecord<RowOf<R>>],
     ) -> Result<Option<R::Length>, Refusal>
-        ensures answer { MatchResult result (λ _. gap_refusal self.now.header (length first.now) (length second.now) ≡ None) (λ e. gap_refusal self.now.header (length first.now) (length second.now) ≡ Some e) }
+        ensures answer { MatchResult result (λ _. gap_refusal self.now (length first.now) (length second.now) ≡ None) (λ e. gap_refusal self.now (length first.now) (length second.now) ≡ Some e) }
         ensures exact { result ≡ gap_answer R.Length.kind R.Length.rows (R.Ruler.ruling ruler.now).sum self.now.header first.now second.now }
     {
         self.header.gap(ruler, first, second)
