@@ -2,7 +2,6 @@
 ghost use Rattle.std.specs.Prelude.{◌≡◌, ◌+◌, ◌*◌, ◌^◌, ◌<◌, ◌≤◌, cond, Some, None, MatchResult};
 ghost use Rattle.gauges.specs.Rulers.{Root, chessboard_units, euclid_square, euclid_units, three_four_refusal, three_four_units};
 ghost use Rattle.gauges.specs.Steps.{edge, rise};
-ghost use Rattle.std.proofs.Common.{rules, arith};
 ghost use Rattle.gauges.specs.Reverses.{rise_back, edge_back};
 
 use crate::{Formula, Step, ThreeFour};
@@ -36,7 +35,7 @@ pub struct Chessboard;
 impl Formula for Chessboard {
     ghost units = { λ _ s. chessboard_units s };
 
-    ghost alike = { Prim.search rules };
+    ghost alike = { λ _ s _. rw (rise_back s) };
 
     fn units_of(&self, step: Step) -> u64 {
         step.rise() + 1
@@ -58,7 +57,7 @@ impl ThreeFour {
 impl Formula for ThreeFour {
     ghost units = { λ f s. three_four_units f.weight s };
 
-    ghost alike = { first_of (Prim.search rules, Prim.grind (arith, Self.row.coded.inj)) };
+    ghost alike = { λ _ s _. rw (rise_back s, edge_back s) };
 
     fn units_of(&self, step: Step) -> u64 {
         u64::from(self.weight) * step.rise() + step.edge_or_corner(3, 4)
