@@ -3,9 +3,10 @@
 
 usage: python3 tools/respell.py            at the top of the repository, once, after the toolchain's own script
 
-It collects the names with a hyphen that specs/ and proofs/ declare (definitions, lemmas, records and their fields; of a file of answers those that are not pub), and
-writes each anew wherever it stands in specs/, proofs/, src/ and the documents. Names that the toolchain makes, as those of
-goals, and names of its library stay. It stops, and changes nothing, where two names would fall together.
+It collects the names with a hyphen that specs/ and proofs/ declare: definitions, lemmas, records and their fields, and of a
+file of answers the names that are not pub. It writes each anew wherever it stands in specs/, proofs/, src/ and the documents,
+but not in strings, comments and prose. Names that the toolchain makes, as those of goals, and names of its library stay.
+It stops, and changes nothing, where two names would fall together.
 """
 
 import os
@@ -13,28 +14,31 @@ import re
 import sys
 
 NAME = r"[A-Za-z][\w']*(?:-[\w']+)+"
-DECLARED = re.compile(r"^(?:pub |abbrev |unfoldable |record )*(" + NAME + r") (?::|\(|\{)", re.M)
+MARKS = r"^(?:pub |abbrev |unfoldable |record )*"
+DECLARED = re.compile(MARKS + "(" + NAME + r") (?::|\(|\{)", re.M)
 FIELD = re.compile(r"^  (?:pub )?(" + NAME + r") :", re.M)
 RECORD = re.compile(r"^pub record (" + NAME + r")\b", re.M)
 PRIVATE = re.compile(r"^(?:abbrev |unfoldable )*(" + NAME + r") :", re.M)
-PLAIN = re.compile(r"^(?:pub |abbrev |unfoldable |record )*([A-Za-z][\w']*) (?::|\(|\{)", re.M)
+PLAIN = re.compile(MARKS + r"([A-Za-z][\w']*) (?::|\(|\{)", re.M)
 PLAIN_FIELD = re.compile(r"^  (?:pub )?([A-Za-z][\w']*) :", re.M)
 LIBRARY = re.compile(r"^(?:pub |ghost )*use Rattle\.(?:std|core|alloc)[\w.]*\.\{([^}]*)\}", re.M)
+CODE_PROSE = r'("(?:[^"\\\n]|\\.)*"|//[^\n]*)'
+PROOF_PROSE = r"((?<![\w'])--[^\n]*)"
 
 
-def files(ends):
+def files():
     for top in ("crates", "docs", "README.md"):
         if os.path.isfile(top):
             yield top
         for folder, dirs, names in os.walk(top):
             dirs[:] = sorted(d for d in dirs if d not in ("out", "must-fail"))
             for name in sorted(names):
-                if name.endswith(ends):
+                if name.endswith((".antt", ".rt", ".md")):
                     yield os.path.join(folder, name)
 
 
 def is_made(path):
-    """Files whose names at the left are goals, which the toolchain names."""
+    """Files whose pub names at the left are goals, which the toolchain names."""
     return os.path.basename(path) in ("Answers.antt", "Invariants.antt", "Choices.antt", "Proof.antt")
 
 
@@ -43,60 +47,65 @@ def read(path):
         return f.read()
 
 
-def parts(path, text):
-    """The text in pieces, each with whether it is prose: a string, a comment, or in a document what has no backticks."""
-    if path.endswith(".md"):
-        for i, part in enumerate(re.split(r"(`[^`\n]*`)", text)):
-            yield part, i % 2 == 0
-        return
-    prose = r'("(?:[^"\\\n]|\\.)*"|//[^\n]*)' if path.endswith(".rt") else r"((?<![\w'])--[^\n]*)"
-    for i, part in enumerate(re.split(prose, text)):
-        yield part, i % 2 == 1
+def found(patterns, texts):
+    return {name for text in texts for pattern in patterns for name in pattern.findall(text)}
+
+
+def library_names(texts):
+    return {n.split(" as ")[-1].strip() for names in found([LIBRARY], texts) for n in names.split(",")}
 
 
 def new_name(old):
-    parts = old.split("-")
+    words = old.split("-")
     if old[0].isupper():
-        return "".join(p[0].upper() + p[1:] for p in parts)
-    return "_".join(parts)
+        return "".join(w[0].upper() + w[1:] for w in words)
+    return "_".join(words)
+
+
+def renaming(texts):
+    """Each name with its new one, and a line for each that would fall together with another."""
+    proofs = {p: t for p, t in texts.items() if p.endswith(".antt")}
+    declaring = [t for p, t in proofs.items() if not is_made(p)]
+    answering = [t for p, t in proofs.items() if is_made(p)]
+    library = library_names(texts.values())
+    own = found([DECLARED, FIELD, RECORD], declaring) | found([PRIVATE], answering)
+    taken = library | found([PLAIN, PLAIN_FIELD], declaring)
+    turned, clashes = {}, []
+    for name in sorted(own - library):
+        to = new_name(name)
+        if to in taken:
+            clashes.append(f"falls together: {name} and another {to}")
+        taken.add(to)
+        turned[name] = to
+    return turned, clashes
+
+
+def pieces(path, text):
+    """The text in pieces, each with whether it is prose: a string, a comment, or in a document what has no backticks."""
+    if path.endswith(".md"):
+        return [(part, i % 2 == 0) for i, part in enumerate(re.split(r"(`[^`\n]*`)", text))]
+    prose = CODE_PROSE if path.endswith(".rt") else PROOF_PROSE
+    return [(part, i % 2 == 1) for i, part in enumerate(re.split(prose, text))]
+
+
+def respelled(path, text, turned):
+    longest_first = sorted(turned, key=len, reverse=True)
+    word = re.compile(r"(?<![\w'\-])(" + "|".join(map(re.escape, longest_first)) + r")(?![\w'\-])")
+    return "".join(part if is_prose else word.sub(lambda m: turned[m.group(1)], part) for part, is_prose in pieces(path, text))
 
 
 def main():
-    texts = {p: read(p) for p in files((".antt", ".rt", ".md"))}
-    own, library, plain = set(), set(), {}
+    texts = {p: read(p) for p in files()}
+    turned, clashes = renaming(texts)
+    if clashes:
+        sys.exit("\n".join(clashes))
     for path, text in texts.items():
-        for names in LIBRARY.findall(text):
-            library |= {n.split(" as ")[-1].strip() for n in names.split(",")}
-        if not path.endswith(".antt"):
-            continue
-        if is_made(path):
-            own |= set(PRIVATE.findall(text))
-            continue
-        own |= set(DECLARED.findall(text)) | set(FIELD.findall(text)) | set(RECORD.findall(text))
-        for name in PLAIN.findall(text) + PLAIN_FIELD.findall(text):
-            plain.setdefault(name, path)
-    both = sorted(own & library)
-    for name in both:
-        print(f"left: {name} is also a name of the library", file=sys.stderr)
-    own -= library
-    turned = {}
-    bad = False
-    for name in sorted(own):
-        to = new_name(name)
-        if to in turned.values() or to in plain or to in library:
-            print(f"falls together: {name} and {to} of {plain.get(to, 'the library or another turned name')}", file=sys.stderr)
-            bad = True
-        turned[name] = to
-    if bad and "--anyway" not in sys.argv:
-        raise SystemExit(2)
-    word = re.compile(r"(?<![\w'\-])(" + "|".join(re.escape(n) for n in sorted(turned, key=len, reverse=True)) + r")(?![\w'\-])")
-    for path, text in texts.items():
-        to = "".join(part if is_prose else word.sub(lambda m: turned[m.group(1)], part) for part, is_prose in parts(path, text))
+        to = respelled(path, text, turned) if turned else text
         if to != text:
             with open(path, "w", encoding="utf-8") as f:
                 f.write(to)
     print(f"{len(turned)} names")
-    for name, to in sorted(turned.items()):
+    for name, to in turned.items():
         print(f"  {name} -> {to}")
 
 

@@ -40,7 +40,7 @@ impl Gauge for Wall {
 }
 
 // The expected maps are worked out from the rules, by hand and by a program that relaxes lengths until none changes,
-// and not taken from what the library answers.
+// and not taken from what the library answers. A helper's `what` is said where one of its assertions fails.
 #[cfg(test)]
 mod tests {
     use super::*;

@@ -2,6 +2,7 @@
 #![tactic(auto)]
 
 // The expected answers are worked out from the rules, and not taken from what the library answers.
+// A helper's `what` is said where one of its assertions fails.
 #[cfg(test)]
 mod tests {
     use board::{Cell, MapRecord, Refusal};
@@ -193,7 +194,7 @@ mod tests {
         list: &mut [u16],
         answer: Result<usize, Refusal>,
         cells: &[u16],
-    ) -> Result<(), Fail> {
+    ) {
         assert_eq!(rt;
             draft.way::<Whole>(map, 0, column, 1, list),
             answer,
@@ -206,17 +207,10 @@ mod tests {
                 "{what}"
             );
         }
-        Ok(())
     }
 
     // Checks that the way from a cell is torn, on a list that is long enough and on one that is too short.
-    fn check_torn(
-        rt: &impl Abort,
-        what: &str,
-        draft: &Draft,
-        map: &[MapRecord<u64>],
-        column: u16,
-    ) -> Result<(), Fail> {
+    fn check_torn(rt: &impl Abort, what: &str, draft: &Draft, map: &[MapRecord<u64>], column: u16) {
         check_way(
             rt,
             what,
@@ -226,7 +220,7 @@ mod tests {
             &mut [BLANK; 4],
             Err(Refusal::Torn),
             &[],
-        )?;
+        );
         check_way(
             rt,
             what,
@@ -236,7 +230,7 @@ mod tests {
             &mut [],
             Err(Refusal::Torn),
             &[],
-        )
+        );
     }
 
     // Checks that the readings of a cell of row 0 are all sent back.
@@ -248,7 +242,7 @@ mod tests {
         column: u16,
         group: u16,
         refusal: Refusal,
-    ) -> Result<(), Fail> {
+    ) {
         assert_eq!(rt; distance(draft, map, column, group), Err(refusal), "{what}");
         assert_eq!(rt;
             draft.nearest::<Whole>(map, 0, column, group),
@@ -262,7 +256,6 @@ mod tests {
             "{what}"
         );
         assert_eq!(rt; list[0], BLANK, "{what}");
-        Ok(())
     }
 
     // Checks that gap and route are sent back, and that no mark is written.
@@ -377,7 +370,7 @@ mod tests {
             &mut [BLANK; 5],
             Ok(3),
             &[2, 1, 0],
-        )?;
+        );
         assert_eq!(rt; distance(&draft, &map, 2, 1), Ok(Some(12)));
         Ok(())
     }
@@ -406,8 +399,8 @@ mod tests {
             &mut [BLANK; 4],
             Ok(0),
             &[],
-        )?;
-        check_way(&rt, "walls part", &draft, &map, 2, &mut [], Ok(0), &[])?;
+        );
+        check_way(&rt, "walls part", &draft, &map, 2, &mut [], Ok(0), &[]);
         assert_eq!(rt; draft.nearest::<Whole>(&map, 0, 2, 1), Ok(None));
         assert_eq!(rt; distance(&draft, &map, 2, 1), Ok(None));
         Ok(())
@@ -430,7 +423,7 @@ mod tests {
             &mut [BLANK; 2],
             Ok(2),
             &[1, 0],
-        )?;
+        );
         check_way(
             &rt,
             "ways need their lists",
@@ -440,7 +433,7 @@ mod tests {
             &mut [BLANK; 1],
             Err(Refusal::Short),
             &[],
-        )?;
+        );
         check_way(
             &rt,
             "a source",
@@ -450,7 +443,8 @@ mod tests {
             &mut [BLANK; 1],
             Ok(1),
             &[2],
-        )
+        );
+        Ok(())
     }
 
     // The maps are changed after measuring. Cell 3 is not on the plate, though the map has a record for it.
@@ -461,15 +455,15 @@ mod tests {
         let measured = measure(&mut draft, &cells, &pad_groups(1, 2), 1)?;
         let mut map = measured;
         map[1].link = 3;
-        check_torn(&rt, "a link off the plate", &draft, &map, 2)?;
+        check_torn(&rt, "a link off the plate", &draft, &map, 2);
         map[1].link = 65535;
-        check_torn(&rt, "a link off the map", &draft, &map, 1)?;
+        check_torn(&rt, "a link off the map", &draft, &map, 1);
         map = measured;
         map[0].link = 2;
-        check_torn(&rt, "a ring of links", &draft, &map, 1)?;
+        check_torn(&rt, "a ring of links", &draft, &map, 1);
         map = measured;
         map[0].reached = false;
-        check_torn(&rt, "a link to an unreached cell", &draft, &map, 2)?;
+        check_torn(&rt, "a link to an unreached cell", &draft, &map, 2);
         check_way(
             &rt,
             "tampered maps are torn",
@@ -479,7 +473,7 @@ mod tests {
             &mut [BLANK; 4],
             Ok(0),
             &[],
-        )?;
+        );
         map = measured;
         map[2].pad = 65;
         assert_eq!(rt; draft.nearest::<Whole>(&map, 0, 2, 1), Ok(Some(0)));
@@ -503,7 +497,7 @@ mod tests {
             0,
             1,
             Refusal::Outdated,
-        )?;
+        );
         let first = measure(&mut draft, &cells, &groups, 1)?;
         assert_eq!(rt; distance(&draft, &first[0..3], 2, 1), Ok(Some(2)));
         check_refused(
@@ -514,7 +508,7 @@ mod tests {
             0,
             2,
             Refusal::Outdated,
-        )?;
+        );
         check_apart(
             &rt,
             "one group alone",
@@ -531,7 +525,7 @@ mod tests {
             3,
             0,
             Refusal::Tables,
-        )?;
+        );
         check_refused(
             &rt,
             "readings are sent back",
@@ -540,7 +534,7 @@ mod tests {
             3,
             0,
             Refusal::Off,
-        )?;
+        );
         check_refused(
             &rt,
             "readings are sent back",
@@ -549,7 +543,7 @@ mod tests {
             2,
             0,
             Refusal::Group,
-        )?;
+        );
         check_refused(
             &rt,
             "readings are sent back",
@@ -558,7 +552,7 @@ mod tests {
             2,
             3,
             Refusal::Group,
-        )?;
+        );
         let second = measure(&mut draft, &cells, &groups, 2)?;
         check_apart(
             &rt,
@@ -583,7 +577,7 @@ mod tests {
         );
         assert!(rt; marks[0] == 7 && marks[1] == 7);
         draft.bar(&mut cells, 0, 1)?;
-        check_refused(&rt, "an edit", &draft, &first, 2, 1, Refusal::Outdated)?;
+        check_refused(&rt, "an edit", &draft, &first, 2, 1, Refusal::Outdated);
         check_apart(
             &rt,
             "readings are sent back",
