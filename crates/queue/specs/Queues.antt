@@ -1,21 +1,16 @@
 -- What a queue holds, and what push and pop do. Assumes nothing.
-use Rattle.std.specs.Prelude.{◌≡◌, ◌+◌, ◌-◌, ◌<◌, ◌≤◌, Bool, true, cond, List, ◌∷◌, length, take, drop, MatchBool, Option, MatchOption, nat_lt}
+use Rattle.std.specs.Prelude.{◌≡◌, ◌+◌, ◌-◌, ◌<◌, Bool, true, cond, List, ◌∷◌, length, take, drop, MatchBool, Option, MatchOption, nat_lt}
 use Rattle.std.specs.List.{AllByRecursion}
 use Rattle.std.specs.List.Sorted.{IsPermutation}
-use Rattle.queue.specs.Heaps.{Heap}
+use Rattle.queue.specs.declared.Order.{Ghosts}
 use Rattle.queue.specs.declared.queues.Queue.{Queue}
 
 -- the entries in the queue
-abbrev pub queued : {E : Type 0} → Queue E → List E
+abbrev pub queued : {O E : Type 0} {g : Ghosts O E} → Queue O E g → List E
 queued q = take q.len q.entries.now
 
--- what every queue keeps: its part lies within its slice, and is a heap
-pub record Sound {E : Type 0} (le : E → E → Bool) (q : Queue E) : Type 0 where
-  pub within : q.len ≤ length q.entries.now
-  pub ordered : Heap le (queued q)
-
 -- a push adds exactly the entry, or is refused where the slice is full and changes nothing
-pub record Pushes {E : Type 0} (q : Queue E) (x : E) (q' : Queue E) (r : Bool) : Type 0 where
+pub record Pushes {O E : Type 0} {g : Ghosts O E} (q : Queue O E g) (x : E) (q' : Queue O E g) (r : Bool) : Type 0 where
   pub answer : r ≡ nat_lt q.len (length q.entries.now)
   pub len : q'.len ≡ q.len + cond r 1 0
   pub added : MatchBool r (IsPermutation (x ∷ queued q) (queued q')) (q'.entries.now ≡ q.entries.now)
@@ -23,7 +18,7 @@ pub record Pushes {E : Type 0} (q : Queue E) (x : E) (q' : Queue E) (r : Bool) :
   pub room : length q'.entries.now ≡ length q.entries.now
 
 -- a pop takes out exactly one entry, which is at most every other, or answers none where there is none
-pub record Pops {E : Type 0} (le : E → E → Bool) (q q' : Queue E) (r : Option E) : Type 0 where
+pub record Pops {O E : Type 0} {g : Ghosts O E} (le : E → E → Bool) (q q' : Queue O E g) (r : Option E) : Type 0 where
   pub len : q'.len ≡ q.len - 1
   pub taken : MatchOption r ((q.len ≡ 0) × (q'.entries.now ≡ q.entries.now)) (λ x. (0 < q.len) × IsPermutation (queued q) (x ∷ queued q') × AllByRecursion (λ y. le x y ≡ true) (queued q))
   pub beyond : drop q'.len q'.entries.now ≡ drop q'.len q.entries.now

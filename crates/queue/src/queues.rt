@@ -1,19 +1,22 @@
 // The priority queue.
-ghost use Rattle.std.specs.Prelude.{◌≡◌, Bool, ◌==◌};
-ghost use Rattle.queue.specs.Queues.{Pops, Pushes, Sound};
+ghost use Rattle.std.specs.Prelude.{◌≡◌, ◌≤◌, ◌==◌, length, take};
+ghost use Rattle.queue.specs.Heaps.{Heap};
 
 use crate::{Order, replace_first, sift_up};
 
-// A priority queue in the front part of a lent slice.
+// A priority queue in the front part of a lent slice, which is a heap.
 #[derive(Drop)]
-pub struct Queue<'a, E> {
-    entries: &'a mut [E],
+pub struct Queue<'a, O: Order> {
+    entries: &'a mut [O::Entry],
     len: usize,
+    ghost within: { len ≤ length entries.now },
+    ghost ordered: { Heap O.Order.le (take len entries.now) },
 }
 
-impl<'a, E: Copy> Queue<'a, E> {
-    pub fn new(entries: &'a mut [E]) -> Queue<'a, E>
-        ensures sound { (le : E → E → Bool) → Sound le result }
+impl<'a, O: Order> Queue<'a, O> {
+    ghost use Rattle.queue.specs.Queues.{Pops, Pushes};
+
+    pub fn new(entries: &'a mut [O::Entry]) -> Queue<'a, O>
         ensures len { result.len ≡ 0 }
         ensures entries { result.entries.now ≡ entries.old }
     {
@@ -33,10 +36,8 @@ impl<'a, E: Copy> Queue<'a, E> {
     }
 
     // One entry more, or false where the slice is full.
-    pub fn push<O: Order<Entry = E>>(&mut self, entry: E) -> bool
-        requires { Sound O.Order.le self.old }
-        ensures sound { Sound O.Order.le self.new }
-        ensures pushes { Pushes self.old entry self.new result }
+    pub fn push(&mut self, entry: O::Entry) -> bool
+        ensures { Pushes self.old entry self.new result }
     {
         let len = self.len;
         if len >= self.entries.len() {
@@ -48,10 +49,8 @@ impl<'a, E: Copy> Queue<'a, E> {
     }
 
     // Takes the least entry out, if there is one.
-    pub fn pop<O: Order<Entry = E>>(&mut self) -> Option<E>
-        requires { Sound O.Order.le self.old }
-        ensures sound { Sound O.Order.le self.new }
-        ensures pops { Pops O.Order.le self.old self.new result }
+    pub fn pop(&mut self) -> Option<O::Entry>
+        ensures { Pops O.Order.le self.old self.new result }
     {
         if self.len == 0 {
             return None;

@@ -1,9 +1,6 @@
 // Tests of the priority queue: offers of a fixed generator come out in order, at both kinds of length.
 #![tactic(auto)]
 
-ghost use Rattle.queue.specs.Orders.{offer_le};
-ghost use Rattle.queue.specs.Queues.{Sound};
-
 use lengths::{Counted, CountedRow, Length, Whole};
 use queue::{ByLength, Offer, Order, Queue};
 
@@ -26,10 +23,7 @@ pub fn next_number(number: u64) -> u64 {
 }
 
 // Pushes offers of lengths made of the generator's numbers, many of them equal, and says how many were accepted.
-fn push_all<'q, K: Length>(rows: &[K::Row], queue: &mut Queue<'q, Offer<K::Row>>) -> usize
-    requires { Sound (offer_le K.Length.kind K.Length.rows) queue.old }
-    ensures { Sound (offer_le K.Length.kind K.Length.rows) queue.new }
-{
+fn push_all<K: Length>(rows: &[K::Row], queue: &mut Queue<'_, ByLength<K>>) -> usize {
     let mut accepted: usize = 0;
     let mut number = 1;
     for row in rows {
@@ -38,7 +32,7 @@ fn push_all<'q, K: Length>(rows: &[K::Row], queue: &mut Queue<'q, Offer<K::Row>>
             length: *row,
             cell: ((number >> 40) & 0xff) as usize,
         };
-        if queue.push::<ByLength<K>>(offer) {
+        if queue.push(offer) {
             accepted = accepted.saturating_add(1);
         }
     }
@@ -46,16 +40,14 @@ fn push_all<'q, K: Length>(rows: &[K::Row], queue: &mut Queue<'q, Offer<K::Row>>
 }
 
 // Pops until nothing is left.
-fn pop_all<'q, K: Length>(queue: &mut Queue<'q, Offer<K::Row>>) -> Drained
-    requires { Sound (offer_le K.Length.kind K.Length.rows) queue.old }
-{
+fn pop_all<K: Length>(queue: &mut Queue<'_, ByLength<K>>) -> Drained {
     let mut drained = Drained {
         count: 0,
         cells: 0,
         ascending: true,
     };
     let mut last: Option<Offer<K::Row>> = None;
-    while let Some(offer) = queue.pop::<ByLength<K>>() {
+    while let Some(offer) = queue.pop() {
         if let Some(before) = last {
             drained.ascending = drained.ascending && <ByLength<K> as Order>::at_most(before, offer);
         }
@@ -79,9 +71,9 @@ pub fn cells_offered(offers: usize) -> u64 {
 
 // Pushes one offer for each row, one more than the slice holds where it is too short, and pops them all.
 pub fn through_queue<K: Length>(rows: &[K::Row], slice: &mut [Offer<K::Row>]) -> (usize, Drained) {
-    let mut queue = Queue::new(slice);
-    let accepted = push_all::<K>(rows, &mut queue);
-    (accepted, pop_all::<K>(&mut queue))
+    let mut queue = Queue::<ByLength<K>>::new(slice);
+    let accepted = push_all(rows, &mut queue);
+    (accepted, pop_all(&mut queue))
 }
 
 #[cfg(test)]

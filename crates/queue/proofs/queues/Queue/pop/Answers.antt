@@ -1,8 +1,7 @@
 use Rattle.std.proofs.Common.{◌≡◌, ◌+◌, ◌-◌, ◌<◌, ◌≤◌, ◌∷◌, ◌++◌, length, get_or, take, drop, set, Some, sym, refl, ap, ◌∙◌, subst, arith}
 use Rattle.std.specs.List.Sorted.{IsPermutation}
 use Rattle.std.proofs.lemmas.List.{length-take-le}
-use Rattle.queue.specs.Heaps.{Heap}
-use Rattle.queue.specs.Queues.{Sound, Pops}
+use Rattle.queue.specs.Queues.{Pops}
 use Rattle.queue.proofs.Parts.{part_is, rest_is, room_is, holed_front, popped_off, last_off, least_of}
 use Rattle.queue.proofs.queues.Queue.pop.Goals as goal
 use Rattle.queue.proofs.queues.Queue.pop.Goals.{then-len-gt0, else-len-gt0}
@@ -11,8 +10,8 @@ pub replace_first-requires : goal.replace_first-requires
 replace_first-requires g c =
     let q = c.args.self.now in
     record {
-      some = omega (arith, c.requires.within, length-take-le (q.len - 1 - 0) q.entries.now (omega (arith, c.requires.within)));
-      holed = holed_front q.entries.now q.len (q.len - 1 - 0) (omega arith) c.requires.within c.requires.ordered;
+      some = omega (arith, q.within, length-take-le (q.len - 1 - 0) q.entries.now (omega (arith, q.within)));
+      holed = holed_front q.entries.now q.len (q.len - 1 - 0) (omega arith) q.within q.ordered;
     }
 
 -- both ways: with entries left to sift, and with the last one out
@@ -28,44 +27,34 @@ returns g c =
     let is = c.index-self-0.is in
     let some : 0 < n = omega (arith, c.if-self-eq0.false) in
     let back : n ≡ k + 1 = omega arith in
-    let least = least_of xs xs n k first back c.requires.within is laws c.requires.ordered in
-    let after : Sound le c.if-len-gt0.self × Pops le q c.if-len-gt0.self (Some first) =
+    let least = least_of xs xs n k first back q.within is laws q.ordered in
+    let after : Pops le q c.if-len-gt0.self (Some first) =
     elim c.if-len-gt0.branch [
       | then-len-gt0 w ↦
           let ys = w.replace_first.new.entries in
           let last = w.index-self-len in
           let less : k - 0 ≡ k = omega arith in
-          let within : k ≤ length xs = omega (arith, c.requires.within) in
+          let within : k ≤ length xs = omega (arith, q.within) in
           let long : length ys ≡ k = w.replace_first.auto.entries ∙ length-take-le (k - 0) xs (omega arith) ∙ less in
           let new : ys ++ drop k xs ≡ ys ++ drop (k - 0) xs = ap (λ j. ys ++ drop j xs) (sym less) in
           let part : take k (ys ++ drop (k - 0) xs) ≡ ys = ap (take k) (sym new) ∙ part_is xs ys k within long in
           let room : length (ys ++ drop (k - 0) xs) ≡ length xs = ap length (sym new) ∙ room_is xs ys k within long in
           let sifted = subst (λ j. IsPermutation (set (take j xs) 0 (get_or xs k last.result)) ys) less w.replace_first.ensures.shuffled in
-          let off = popped_off xs ys n k first back c.requires.within is last.result last.is w.if-len-gt0.true
-          (subst (λ y. IsPermutation (set (take k xs) 0 y) ys) (sym last.is) sifted) in (
-            subst (Sound le) (sym w.self-is) (record {
-              within = omega (arith, room);
-              ordered = subst (Heap le) (sym part) w.replace_first.ensures.ordered;
-            }),
-            subst (λ q'. Pops le q q' (Some first)) (sym w.self-is) (record {
-              len = refl;
-              taken = (some, subst (λ l. IsPermutation (take n xs) (first ∷ l)) (sym part) off, least);
-              beyond = ap (drop k) (sym new) ∙ rest_is xs ys k within long;
-              room = room;
-            }),
-          )
+          let off = popped_off xs ys n k first back q.within is last.result last.is w.if-len-gt0.true
+          (subst (λ y. IsPermutation (set (take k xs) 0 y) ys) (sym last.is) sifted) in
+          subst (λ q'. Pops le q q' (Some first)) (sym w.self-is) (record {
+            len = refl;
+            taken = (some, subst (λ l. IsPermutation (take n xs) (first ∷ l)) (sym part) off, least);
+            beyond = ap (drop k) (sym new) ∙ rest_is xs ys k within long;
+            room = room;
+          })
       | else-len-gt0 w ↦
-          let none : k ≡ 0 = omega (arith, w.if-len-gt0.false) in (
-            subst (Sound le) (sym w.self-is) (record {
-              within = omega (arith, c.requires.within);
-              ordered = λ i d pos lt. absurd (omega (arith, length-take-le k xs (omega (arith, c.requires.within))));
-            }),
-            subst (λ q'. Pops le q q' (Some first)) (sym w.self-is) (record {
-              len = refl;
-              taken = (some, last_off xs xs n k first back c.requires.within is none, least);
-              beyond = refl;
-              room = refl;
-            }),
-          )
+          let none : k ≡ 0 = omega (arith, w.if-len-gt0.false) in
+          subst (λ q'. Pops le q q' (Some first)) (sym w.self-is) (record {
+            len = refl;
+            taken = (some, last_off xs xs n k first back q.within is none, least);
+            beyond = refl;
+            room = refl;
+          })
     ] in
-    record { sound = after.0; pops = subst (λ y. Pops le q c.if-len-gt0.self (Some y)) is after.1 }
+    subst (λ y. Pops le q c.if-len-gt0.self (Some y)) is after

@@ -2,7 +2,6 @@ use Rattle.std.proofs.Common.{◌≡◌, ◌+◌, ◌-◌, ◌≤◌, ◌∷◌,
 use Rattle.std.specs.List.Sorted.{IsPermutation}
 use Rattle.std.proofs.lemmas.List.{length-take-le}
 use Rattle.std.proofs.lemmas.Bool.{lt-ltb}
-use Rattle.queue.specs.Heaps.{Heap}
 use Rattle.queue.proofs.Parts.{part_is, rest_is, room_is, holed_behind, pushed_on}
 use Rattle.queue.proofs.queues.Queue.push.Goals as goal
 
@@ -11,7 +10,7 @@ sift_up-requires g c =
     let q = c.args.self.now in
     record {
       within = omega (arith, length-take-le (q.len + 1 - 0) q.entries.now (omega arith));
-      holed = holed_behind q.entries.now q.len (q.len + 1 - 0) (omega arith) c.if-len-self.false c.requires.ordered;
+      holed = holed_behind q.entries.now q.len (q.len + 1 - 0) (omega arith) c.if-len-self.false q.ordered;
       below = λ i d lt n is. absurd (omega (arith, length-take-le (q.len + 1 - 0) q.entries.now (omega arith)));
     }
 
@@ -28,15 +27,9 @@ returns g c =
     let part : take (n + 1) (ys ++ drop (n + 1 - 0) xs) ≡ ys = ap (take (n + 1)) (sym new) ∙ part_is xs ys (n + 1) within long in
     let room : length (ys ++ drop (n + 1 - 0) xs) ≡ length xs = ap length (sym new) ∙ room_is xs ys (n + 1) within long in
     record {
-      sound = record {
-        within = omega (arith, room);
-        ordered = subst (Heap g.O.Order.le) (sym part) c.sift_up.ensures.ordered;
-      };
-      pushes = record {
-        answer = sym (lt-ltb n (length xs) c.if-len-self.false);
-        len = λ _. n + 1;
-        added = subst (IsPermutation (c.args.entry ∷ take n xs)) (sym part) (pushed_on xs ys n (n + 1 - 0) c.args.entry one c.if-len-self.false c.sift_up.ensures.shuffled);
-        beyond = ap (drop (n + 1)) (sym new) ∙ rest_is xs ys (n + 1) within long;
-        room = room;
-      };
+      answer = sym (lt-ltb n (length xs) c.if-len-self.false);
+      len = λ _. n + 1;
+      added = subst (IsPermutation (c.args.entry ∷ take n xs)) (sym part) (pushed_on xs ys n (n + 1 - 0) c.args.entry one c.if-len-self.false c.sift_up.ensures.shuffled);
+      beyond = ap (drop (n + 1)) (sym new) ∙ rest_is xs ys (n + 1) within long;
+      room = room;
     }
