@@ -23,7 +23,7 @@ pub fn next_number(number: u64) -> u64 {
 }
 
 // Pushes offers of lengths made of the generator's numbers, many of them equal, and says how many were accepted.
-fn push_all<K: Length>(rows: &[K::Row], queue: &mut Queue<'_, ByLength<K>>) -> usize {
+fn push_all<'q, K: Length>(rows: &[K::Row], queue: &mut Queue<'q, ByLength<K>>) -> usize {
     let mut accepted: usize = 0;
     let mut number = 1;
     for row in rows {
@@ -40,7 +40,7 @@ fn push_all<K: Length>(rows: &[K::Row], queue: &mut Queue<'_, ByLength<K>>) -> u
 }
 
 // Pops until nothing is left.
-fn pop_all<K: Length>(queue: &mut Queue<'_, ByLength<K>>) -> Drained {
+fn pop_all<'q, K: Length>(queue: &mut Queue<'q, ByLength<K>>) -> Drained {
     let mut drained = Drained {
         count: 0,
         cells: 0,
