@@ -6,11 +6,11 @@ use Rattle.queue.specs.declared.Order.{Ghosts}
 use Rattle.queue.specs.declared.queues.Queue.{Queue}
 
 -- the entries in the queue
-abbrev pub queued : {O E : Type 0} {g : Ghosts O E} → Queue O E g → List E
+abbrev pub queued : {E O : Type 0} {g : Ghosts O E} → Queue E O g → List E
 queued q = take q.len q.entries.now
 
 -- a push adds exactly the entry, or is refused where the slice is full and changes nothing
-pub record Pushes {O E : Type 0} {g : Ghosts O E} (q : Queue O E g) (x : E) (q' : Queue O E g) (r : Bool) : Type 0 where
+pub record Pushes {E O : Type 0} {g : Ghosts O E} (q : Queue E O g) (x : E) (q' : Queue E O g) (r : Bool) : Type 0 where
   pub answer : r ≡ nat_lt q.len (length q.entries.now)
   pub len : q'.len ≡ q.len + cond r 1 0
   pub added : MatchBool r (IsPermutation (x ∷ queued q) (queued q')) (q'.entries.now ≡ q.entries.now)
@@ -18,7 +18,7 @@ pub record Pushes {O E : Type 0} {g : Ghosts O E} (q : Queue O E g) (x : E) (q' 
   pub room : length q'.entries.now ≡ length q.entries.now
 
 -- a pop takes out exactly one entry, which is at most every other, or answers none where there is none
-pub record Pops {O E : Type 0} {g : Ghosts O E} (le : E → E → Bool) (q q' : Queue O E g) (r : Option E) : Type 0 where
+pub record Pops {E O : Type 0} {g : Ghosts O E} (le : E → E → Bool) (q q' : Queue E O g) (r : Option E) : Type 0 where
   pub len : q'.len ≡ q.len - 1
   pub taken : MatchOption r ((q.len ≡ 0) × (q'.entries.now ≡ q.entries.now)) (λ x. (0 < q.len) × IsPermutation (queued q) (x ∷ queued q') × AllByRecursion (λ y. le x y ≡ true) (queued q))
   pub beyond : drop q'.len q'.entries.now ≡ drop q'.len q.entries.now

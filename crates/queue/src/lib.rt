@@ -9,7 +9,7 @@ pub mod offer;
 pub mod queues;
 
 pub use heap::{replace_first, sift_down, sift_up};
-pub use offer::{ByLength, Offer};
+pub use offer::{ByLength, Offer, OfferQueue};
 pub use queues::Queue;
 
 // An order on entries.

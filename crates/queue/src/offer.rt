@@ -2,12 +2,12 @@
 ghost use Rattle.queue.specs.Orders.{offer_le};
 ghost use Rattle.queue.specs.Offers.{offer_laws};
 
-use crate::Order;
+use crate::{Order, Queue};
 use lengths::Length;
 use std::marker::PhantomData;
 
 // A length, as its row, offered to a cell by its number.
-#[derive(Clone, Copy)]
+#[derive(Clone, Copy, Debug, PartialEq)]
 pub struct Offer<R> {
     pub length: R,
     pub cell: usize,
@@ -17,6 +17,9 @@ pub struct Offer<R> {
 pub struct ByLength<K> {
     kind: PhantomData<K>,
 }
+
+// A queue of offers.
+pub type OfferQueue<'a, K> = Queue<'a, Offer<<K as Length>::Row>, ByLength<K>>;
 
 impl<K: Length> Order for ByLength<K> {
     type Entry = Offer<K::Row>;

@@ -3,24 +3,30 @@ ghost use Rattle.std.specs.Prelude.{◌≡◌, ◌≤◌, ◌==◌, length, take
 ghost use Rattle.queue.specs.Heaps.{Heap};
 
 use crate::{Order, replace_first, sift_up};
+use std::marker::PhantomData;
 
 // A priority queue in the front part of a lent slice, which is a heap.
 #[derive(Drop)]
-pub struct Queue<'a, O: Order> {
-    entries: &'a mut [O::Entry],
+pub struct Queue<'a, E, O: Order<Entry = E>> {
+    entries: &'a mut [E],
     len: usize,
+    order: PhantomData<O>,
     ghost within: { len ≤ length entries.now },
     ghost ordered: { Heap O.Order.le (take len entries.now) },
 }
 
-impl<'a, O: Order> Queue<'a, O> {
+impl<'a, E: Copy, O: Order<Entry = E>> Queue<'a, E, O> {
     ghost use Rattle.queue.specs.Queues.{Pops, Pushes};
 
-    pub fn new(entries: &'a mut [O::Entry]) -> Queue<'a, O>
+    pub fn new(entries: &'a mut [E]) -> Queue<'a, E, O>
         ensures len { result.len ≡ 0 }
         ensures entries { result.entries.now ≡ entries.old }
     {
-        Queue { entries, len: 0 }
+        Queue {
+            entries,
+            len: 0,
+            order: PhantomData,
+        }
     }
 
     pub fn len(&self) -> usize
@@ -36,7 +42,7 @@ impl<'a, O: Order> Queue<'a, O> {
     }
 
     // One entry more, or false where the slice is full.
-    pub fn push(&mut self, entry: O::Entry) -> bool
+    pub fn push(&mut self, entry: E) -> bool
         ensures { Pushes self.old entry self.new result }
     {
         let len = self.len;
@@ -49,7 +55,7 @@ impl<'a, O: Order> Queue<'a, O> {
     }
 
     // Takes the least entry out, if there is one.
-    pub fn pop(&mut self) -> Option<O::Entry>
+    pub fn pop(&mut self) -> Option<E>
         ensures { Pops O.Order.le self.old self.new result }
     {
         if self.len == 0 {

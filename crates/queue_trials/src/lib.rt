@@ -2,7 +2,7 @@
 #![tactic(auto)]
 
 use lengths::{Counted, CountedRow, Length, Whole};
-use queue::{ByLength, Offer, Order, Queue};
+use queue::{ByLength, Offer, OfferQueue, Order};
 
 // How many offers a trial makes.
 pub const OFFERS: usize = 300;
@@ -23,7 +23,7 @@ pub fn next_number(number: u64) -> u64 {
 }
 
 // Pushes offers of lengths made of the generator's numbers, many of them equal, and says how many were accepted.
-fn push_all<'q, K: Length>(rows: &[K::Row], queue: &mut Queue<'q, ByLength<K>>) -> usize {
+fn push_all<'q, K: Length>(rows: &[K::Row], queue: &mut OfferQueue<'q, K>) -> usize {
     let mut accepted: usize = 0;
     let mut number = 1;
     for row in rows {
@@ -40,7 +40,7 @@ fn push_all<'q, K: Length>(rows: &[K::Row], queue: &mut Queue<'q, ByLength<K>>) 
 }
 
 // Pops until nothing is left.
-fn pop_all<'q, K: Length>(queue: &mut Queue<'q, ByLength<K>>) -> Drained {
+fn pop_all<'q, K: Length>(queue: &mut OfferQueue<'q, K>) -> Drained {
     let mut drained = Drained {
         count: 0,
         cells: 0,
@@ -71,7 +71,7 @@ pub fn cells_offered(offers: usize) -> u64 {
 
 // Pushes one offer for each row, one more than the slice holds where it is too short, and pops them all.
 pub fn through_queue<K: Length>(rows: &[K::Row], slice: &mut [Offer<K::Row>]) -> (usize, Drained) {
-    let mut queue = Queue::<ByLength<K>>::new(slice);
+    let mut queue = OfferQueue::<K>::new(slice);
     let accepted = push_all(rows, &mut queue);
     (accepted, pop_all(&mut queue))
 }
