@@ -9,6 +9,7 @@ use Rattle.std.proofs.lemmas.Bool.Decides.{when_true}
 use Rattle.board.specs.declared.record.MapRecord.{MapRecord}
 use Rattle.lengths.specs.Kinds.{Kind, Rows, KindLaws}
 use Rattle.queue.specs.Queues.{Pushes, queued}
+use Rattle.queue.specs.declared.Order.{Ghosts}
 use Rattle.queue.specs.declared.offer.Offer.{Offer}
 use Rattle.queue.specs.declared.queues.Queue.{Queue}
 use Rattle.measuring.specs.Maps.{ranked_record}
@@ -27,7 +28,7 @@ has_cases y xs (zero, lt, is) = inl (is y)
 has_cases y xs (suc k, lt, is) = inr (k, omega arith, is)
 
 -- a push onto a queue with room
-pub pushed : {E : Type 0} {q q' : Queue E} {x : E} {r : Bool} → Pushes q x q' r → q.len < length q.entries.now → IsPermutation (x ∷ queued q) (queued q')
+pub pushed : {E O : Type 0} {g : Ghosts O E} {q q' : Queue E O g} {x : E} {r : Bool} → Pushes q x q' r → q.len < length q.entries.now → IsPermutation (x ∷ queued q) (queued q')
 pushed {q = q} p room = when_true _ _ (p.answer ∙ lt-ltb q.len _ room) p.added
 
 pub same_offer : {L : Type 0} {x y : Bid L} → waiting x ≡ waiting y → x ≡ y

@@ -6,3 +6,4 @@ pub mod Maps
 pub mod Ways
 pub mod Readings
 pub mod Tracking
+pub mod Measurements

@@ -8,6 +8,7 @@ ghost use Rattle.measuring.specs.Boards.{on};
 ghost use Rattle.measuring.specs.Maps.{Fills};
 ghost use Rattle.measuring.specs.Paths.{measuring};
 
+mod measurement;
 mod offers;
 mod ranks;
 mod starts;
@@ -15,8 +16,8 @@ mod starts;
 use board::{Cell, MapRecord, Size};
 use gauges::Gauge;
 use lengths::Length;
+use measurement::Measurement;
 use queue::{Offer, Queue};
-use ranks::rank_all;
 
 // The row in which tables hold the lengths of a gauge.
 pub type RowOf<G> = <<G as Gauge>::Length as Length>::Row;
@@ -44,8 +45,15 @@ pub fn measure_group<G: Gauge>(
     ensures entries_beyond { drop (9 * area size) entries.new ≡ drop (9 * area size) entries.old }
     ensures fills { Fills G.Length.rows (measuring G.Length.kind (G.Gauge.crossing gauge.now) (on size cells.now groups.now) group) map.old map.new entries.old entries.new result }
 {
+    let job = Measurement {
+        gauge,
+        size,
+        cells,
+        groups,
+        group,
+    };
     let area = size.area();
     let map = &mut map[0..area];
     let mut queue = Queue::new(&mut entries[0..9 * area]);
-    rank_all(gauge, size, cells, groups, group, map, &mut queue)
+    job.rank_all(map, &mut queue)
 }

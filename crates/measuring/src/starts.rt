@@ -3,12 +3,14 @@ ghost use Rattle.std.specs.Prelude.{◌≡◌, ℕ, ◌+◌, ◌<◌, ◌≤◌,
 ghost use Rattle.board.specs.Sizes.{area};
 ghost use Rattle.board.specs.Tables.{source_pad};
 ghost use Rattle.measuring.specs.Tracking.{Tracks, View, begun, starting};
-ghost use Rattle.queue.specs.Orders.{offer_le};
-ghost use Rattle.queue.specs.Queues.{Sound, queued};
+ghost use Rattle.queue.specs.Queues.{queued};
 
-use board::{Cell, MapRecord, Size, group_of, known_pad};
+use crate::RowOf;
+use crate::measurement::Measurement;
+use board::{Cell, MapRecord, group_of, known_pad};
+use gauges::Gauge;
 use lengths::Length;
-use queue::{ByLength, Offer, Queue};
+use queue::{Offer, OfferQueue};
 
 // The pad of a source of the group, or 0 where the cell is none: a source is an open cell whose pad is in the group.
 fn source_pad(cell: Cell, groups: &[u8], group: u8) -> u8
@@ -27,12 +29,10 @@ fn start_cell<'q, K: Length>(
     number: usize,
     pad: u8,
     map: &mut [MapRecord<K::Row>],
-    queue: &mut Queue<'q, Offer<K::Row>>,
+    queue: &mut OfferQueue<'q, K>,
 )
     requires within { (number < length map.old) × (number < 65536) }
-    requires sound { Sound (offer_le K.Length.kind K.Length.rows) queue.old }
     requires room { queue.old.len < length queue.old.entries.now }
-    ensures sound { Sound (offer_le K.Length.kind K.Length.rows) queue.new }
     ensures few { queue.new.len ≤ queue.old.len + 1 }
     ensures room { length queue.new.entries.now ≡ length queue.old.entries.now }
     ensures tracks { (view : ℕ → View K) → view number ≡ begun K.Length.kind number pad → Tracks K.Length.kind K.Length.rows number view map.old (queued queue.old) → Tracks K.Length.kind K.Length.rows (number + 1) view map.new (queued queue.new) }
@@ -43,31 +43,28 @@ fn start_cell<'q, K: Length>(
         return;
     }
     map[number] = MapRecord::offered(zero, pad, number as u16);
-    let _ = queue.push::<ByLength<K>>(Offer {
+    let _ = queue.push(Offer {
         length: zero,
         cell: number,
     });
 }
 
-// Starts the map of a group.
-pub(crate) fn start<'q, K: Length>(
-    size: Size,
-    cells: &[Cell],
-    groups: &[u8],
-    group: u8,
-    map: &mut [MapRecord<K::Row>],
-    queue: &mut Queue<'q, Offer<K::Row>>,
-)
-    requires within { (area size ≤ length cells.now) × (area size ≤ length map.old) }
-    requires sound { Sound (offer_le K.Length.kind K.Length.rows) queue.old }
-    requires room { (queue.old.len ≡ 0) × (area size ≤ length queue.old.entries.now) }
-    ensures sound { Sound (offer_le K.Length.kind K.Length.rows) queue.new }
-    ensures few { queue.new.len ≤ area size }
-    ensures room { length queue.new.entries.now ≡ length queue.old.entries.now }
-    ensures tracks { Tracks K.Length.kind K.Length.rows (area size) (starting K.Length.kind cells.now groups.now group) map.new (queued queue.new) }
-{
-    for number in 0..size.area() {
-        let pad = source_pad(cells[number], groups, group);
-        start_cell::<K>(number, pad, map, queue);
+impl<'a, G: Gauge> Measurement<'a, G> {
+    // Starts the map.
+    pub(crate) fn start<'q>(
+        &self,
+        map: &mut [MapRecord<RowOf<G>>],
+        queue: &mut OfferQueue<'q, G::Length>,
+    )
+        requires within { area self.now.size ≤ length map.old }
+        requires room { (queue.old.len ≡ 0) × (area self.now.size ≤ length queue.old.entries.now) }
+        ensures few { queue.new.len ≤ area self.now.size }
+        ensures room { length queue.new.entries.now ≡ length queue.old.entries.now }
+        ensures tracks { Tracks G.Length.kind G.Length.rows (area self.now.size) (starting G.Length.kind self.now.cells.now self.now.groups.now self.now.group) map.new (queued queue.new) }
+    {
+        for number in 0..self.size.area() {
+            let pad = source_pad(self.cells[number], self.groups, self.group);
+            start_cell::<G::Length>(number, pad, map, queue);
+        }
     }
 }

@@ -1,13 +1,11 @@
 use Rattle.std.proofs.Common.{◌≡◌, ◌≤◌, length}
-use Rattle.queue.specs.Orders.{offer_le}
-use Rattle.queue.specs.Queues.{Sound, queued}
+use Rattle.queue.specs.Queues.{queued}
 use Rattle.measuring.specs.Tracking.{Tracks, starting}
-use Rattle.measuring.proofs.starts.start.Given as goal
+use Rattle.measuring.proofs.measurement.Measurement.start.Given as goal
 
 abbrev pub invariant-loop-number : goal.invariant-loop-number
 invariant-loop-number g l =
-    Sound (offer_le g.K.Length.kind g.K.Length.rows) l.queue ×
     (length l.map ≡ length l.initial.map) ×
     (l.queue.len ≤ l.number) ×
     (length l.queue.entries.now ≡ length l.initial.queue.entries.now) ×
-    Tracks g.K.Length.kind g.K.Length.rows l.number (starting g.K.Length.kind l.cells l.groups l.group) l.map (queued l.queue)
+    Tracks g.G.Length.Length.kind g.G.Length.Length.rows l.number (starting g.G.Length.Length.kind l.self.cells.now l.self.groups.now l.self.group) l.map (queued l.queue)

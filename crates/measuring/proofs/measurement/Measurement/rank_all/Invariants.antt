@@ -1,0 +1,17 @@
+use Rattle.std.proofs.Common.{◌≡◌, ◌+◌, ◌-◌, ◌*◌, ◌≤◌, length}
+use Rattle.queue.specs.Queues.{queued}
+use Rattle.measuring.specs.Measurements.{meant}
+use Rattle.measuring.specs.Tracking.{Ranks}
+use Rattle.measuring.proofs.measurement.Measurement.rank_all.Given as goal
+
+abbrev pub invariant-loop-reached : goal.invariant-loop-reached
+invariant-loop-reached g l =
+    (length l.map ≡ length l.initial.map) ×
+    (length l.queue.entries.now ≡ length l.initial.queue.entries.now) ×
+    (l.queue.len ≤ l.area + 8 * l.reached) ×
+    (l.reached ≤ l.area) ×
+    (l.steps ≤ 8 * l.reached) ×
+    Ranks g.G.Length.Length.rows (meant g.G.Length.Length.kind g.G.Gauge.crossing l.self) l.reached l.steps l.map (queued l.queue)
+
+abbrev pub decreases-loop-reached : goal.decreases-loop-reached
+decreases-loop-reached g l = 10 * (l.area - l.reached) + l.queue.len
