@@ -62,8 +62,8 @@ impl<'a, G: Gauge> Measurement<'a, G> {
         ensures room { length queue.new.entries.now ≡ length queue.old.entries.now }
         ensures tracks { Tracks G.Length.kind G.Length.rows (area self.now.size) (starting G.Length.kind self.now.cells.now self.now.groups.now self.now.group) map.new (queued queue.new) }
     {
-        for number in 0..self.size.area() {
-            let pad = source_pad(self.cells[number], self.groups, self.group);
+        for (number, cell) in self.cells[0..self.size.area()].iter().enumerate() {
+            let pad = source_pad(*cell, self.groups, self.group);
             start_cell::<G::Length>(number, pad, map, queue);
         }
     }
