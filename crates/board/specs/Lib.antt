@@ -1,4 +1,5 @@
 pub mod Refusals
+pub mod Groups
 pub mod Sizes
 pub mod Tables
 pub mod Records

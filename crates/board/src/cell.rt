@@ -3,7 +3,7 @@ ghost use Rattle.std.specs.Prelude.{◌≡◌};
 ghost use Rattle.board.specs.Tables.{known_pad};
 
 // A cell of the board: its height, its pad (0 is bare), and whether it is barred or open.
-#[derive(Clone, Copy, Debug, PartialEq)]
+#[derive(Clone, Copy, Debug, PartialEq, Eq)]
 pub struct Cell {
     pub height: u16,
     pub pad: u8,
@@ -11,6 +11,20 @@ pub struct Cell {
 }
 
 impl Cell {
+    // An open cell of height 0 with no pad.
+    pub const BARE: Cell = Cell {
+        height: 0,
+        pad: 0,
+        barred: false,
+    };
+
+    // A barred cell, with height and pad 0.
+    pub const BARRED: Cell = Cell {
+        height: 0,
+        pad: 0,
+        barred: true,
+    };
+
     // The pad's number; one above 64, which only tampering leaves, counts as 0.
     pub fn known_pad(self) -> u8
         ensures { result ≡ known_pad self.pad }

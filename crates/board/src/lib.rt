@@ -2,12 +2,14 @@
 #![tactic(auto)]
 
 pub mod cell;
+pub mod group;
 pub mod record;
 pub mod refusal;
 pub mod size;
 pub mod tables;
 
 pub use cell::{Cell, known_pad};
+pub use group::Group;
 pub use record::MapRecord;
 pub use refusal::Refusal;
 pub use size::Size;

@@ -1,9 +1,9 @@
 // Map records.
-ghost use Rattle.std.specs.Prelude.{◌≡◌};
+ghost use Rattle.std.specs.Prelude.{◌≡◌, true, false, MatchOption};
 ghost use Rattle.board.specs.Records.{offered_record, unreached_record};
 
 // What a map says of one cell. The length stands as its row, of whichever kind the gauge measures in.
-#[derive(Clone, Copy, Debug, PartialEq)]
+#[derive(Clone, Copy, Debug, PartialEq, Eq)]
 pub struct MapRecord<R> {
     pub length: R,
     pub reached: bool,
@@ -35,5 +35,12 @@ impl<R: Copy> MapRecord<R> {
             link,
             ..MapRecord::unreached(length)
         }
+    }
+
+    // The record of a reached cell, or none where the cell is unreached.
+    pub fn if_reached(self) -> Option<MapRecord<R>>
+        ensures { MatchOption result (self.reached ≡ false) (λ here. (self.reached ≡ true) × (here ≡ self)) }
+    {
+        self.reached.then_some(self)
     }
 }

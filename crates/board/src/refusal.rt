@@ -3,43 +3,28 @@ ghost use Rattle.std.specs.Prelude.{◌≡◌};
 ghost use Rattle.board.specs.Refusals.{number};
 
 // Why a call or a sheet was sent back. Of several that apply the one of the smallest number is answered.
-#[derive(Clone, Copy, Debug, PartialEq)]
+#[derive(Clone, Copy, Debug, PartialEq, Eq)]
 pub enum Refusal {
-    Size,
-    Tables,
-    Off,
-    Pad,
-    Group,
-    Outdated,
-    Short,
-    Torn,
-    Setting,
-    Fence,
-    Line,
-    Figure,
-    Order,
-    Long,
+    Size = 1,
+    Tables = 2,
+    Off = 3,
+    Pad = 4,
+    Group = 5,
+    Outdated = 6,
+    Short = 7,
+    Torn = 8,
+    Setting = 9,
+    Fence = 10,
+    Line = 11,
+    Figure = 12,
+    Order = 13,
+    Long = 14,
 }
 
 impl Refusal {
     pub fn number(self) -> u8
         ensures { result ≡ number self }
     {
-        match self {
-            Refusal::Size => 1,
-            Refusal::Tables => 2,
-            Refusal::Off => 3,
-            Refusal::Pad => 4,
-            Refusal::Group => 5,
-            Refusal::Outdated => 6,
-            Refusal::Short => 7,
-            Refusal::Torn => 8,
-            Refusal::Setting => 9,
-            Refusal::Fence => 10,
-            Refusal::Line => 11,
-            Refusal::Figure => 12,
-            Refusal::Order => 13,
-            Refusal::Long => 14,
-        }
+        self as u8
     }
 }

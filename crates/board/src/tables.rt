@@ -10,7 +10,7 @@ impl Size {
     pub fn new(rows: u16, columns: u16) -> Result<Size, Refusal>
         ensures { MatchResult result (λ s. (bad_size rows columns ≡ false) × Sized s rows columns) (λ e. (bad_size rows columns ≡ true) × (e ≡ refusal.Size)) }
     {
-        if rows == 0 || rows > 256 || columns == 0 || columns > 256 {
+        if !(1..=256).contains(&rows) || !(1..=256).contains(&columns) {
             return Err(Refusal::Size);
         }
         Ok(Size { rows, columns })
@@ -40,11 +40,13 @@ impl Size {
 pub fn group_of(groups: &[u8], pad: u8) -> u8
     ensures { result ≡ group_of groups.now pad }
 {
-    if pad == 0 || pad > 64 || pad as usize > groups.len() {
+    if pad == 0 || pad > 64 {
         return 0;
     }
-    let group = groups[pad as usize - 1];
-    if group > 2 { 0 } else { group }
+    match groups.get(pad as usize - 1) {
+        Some(&group) if group <= 2 => group,
+        _ => 0,
+    }
 }
 
 // Writes the value into the first `count` entries.
@@ -52,7 +54,5 @@ pub fn fill_front<T: Copy>(table: &mut [T], count: usize, value: T)
     requires { count ≤ length table.old }
     ensures { table.new ≡ replicate count value ++ drop count table.old }
 {
-    for i in 0..count {
-        table[i] = value;
-    }
+    table[..count].fill_with(|| value);
 }
