@@ -1,51 +1,14 @@
 // Tests of measuring: whole maps and both counts on small boards, at the edges of what a board can be.
 #![tactic(auto)]
 
-ghost use Rattle.std.specs.Prelude.{true, false};
-ghost use Rattle.std.proofs.Common.{rules};
-
-use gauges::{Gauge, Step};
-use lengths::Whole;
-
-// Adds nothing on any step.
-#[derive(Clone, Copy)]
-pub struct Level;
-
-impl Gauge for Level {
-    type Length = Whole;
-
-    ghost crossing = { λ _. record { barred = λ _. false; carried = λ _ a. a } };
-
-    ghost lawful = { Prim.search rules };
-
-    fn carry(&self, step: Step, length: Whole) -> Option<Whole> {
-        Some(length)
-    }
-}
-
-// Bars every step.
-#[derive(Clone, Copy)]
-pub struct Wall;
-
-impl Gauge for Wall {
-    type Length = Whole;
-
-    ghost crossing = { λ _. record { barred = λ _. true; carried = λ _ a. a } };
-
-    ghost lawful = { Prim.search rules };
-
-    fn carry(&self, step: Step, length: Whole) -> Option<Whole> {
-        None
-    }
-}
-
 // The expected maps are worked out from the rules, by hand and by a program that relaxes lengths until none changes,
 // and not taken from what the library answers. A helper's `what` is said where one of its assertions fails.
 #[cfg(test)]
 mod tests {
-    use super::*;
     use board::{Cell, MapRecord};
-    use gauges::{Chessboard, WholeRuler};
+    use gauge_trials::{Level, Wall};
+    use gauges::{Chessboard, Gauge, WholeRuler};
+    use lengths::Whole;
     use measuring::Counts;
     use plate::Draft;
     use queue::Offer;
@@ -76,33 +39,16 @@ mod tests {
         cell: 777,
     };
 
-    const BARE: Cell = Cell {
-        height: 0,
-        pad: 0,
-        barred: false,
-    };
-
-    const BARRED: Cell = Cell {
-        height: 0,
-        pad: 0,
-        barred: true,
-    };
-
     // A cell of height 0 with a pad.
     fn pad(pad: u8) -> Cell {
-        Cell {
-            height: 0,
-            pad,
-            barred: false,
-        }
+        Cell { pad, ..Cell::BARE }
     }
 
     // A bare cell with a height.
     fn height(height: u16) -> Cell {
         Cell {
             height,
-            pad: 0,
-            barred: false,
+            ..Cell::BARE
         }
     }
 
@@ -132,37 +78,42 @@ mod tests {
         groups
     }
 
+    // A board, and what measuring its group 1 comes to.
+    #[derive(Clone, Copy)]
+    struct Trial<'a> {
+        what: &'a str,
+        size: (u16, u16),
+        cells: &'a [Cell],
+        counts: Counts,
+        records: &'a [MapRecord<u64>],
+    }
+
     // Measures group 1 of a board in tables that are longer than needed, and checks both counts and all entries of
     // the map, and that the queue beyond the needed part is as it was. The plate is opened over spare tables, since
     // opening clears them.
     fn check_map<G: Gauge<Length = Whole>>(
         rt: &impl Abort,
-        what: &str,
         gauge: &G,
-        size: (u16, u16),
-        cells: &[Cell],
-        expected: Counts,
-        records: &[MapRecord<u64>],
+        trial: &Trial<'_>,
     ) -> Result<(), Fail> {
-        let mut draft = Draft::open(size.0, size.1, &mut [BARE; 256], &mut [0; 64])?;
+        let what = trial.what;
+        let (rows, columns) = trial.size;
+        let mut draft = Draft::open(rows, columns, &mut [Cell::BARE; 256], &mut [0; 64])?;
         let mut map = [OLD; 257];
         let mut entries = [OLD_OFFER; 2305];
-        let found = draft.measure(gauge, cells, &pad_groups(), 1, &mut map, &mut entries)?;
-        assert_eq!(rt; found, expected, "{what}");
+        let found = draft.measure(gauge, trial.cells, &pad_groups(), 1, &mut map, &mut entries)?;
+        assert_eq!(rt; found, trial.counts, "{what}");
         let area = draft.size().area();
-        assert!(rt; records.len() == area, "{what}");
+        assert!(rt; trial.records.len() == area, "{what}");
         for (number, record) in map.iter().enumerate() {
             assert_eq!(rt;
                 *record,
-                records.get(number).copied().unwrap_or(OLD),
+                trial.records.get(number).copied().unwrap_or(OLD),
                 "{what}"
             );
         }
         for offer in entries.iter().skip(9 * area) {
-            assert!(rt;
-                offer.length == OLD_OFFER.length && offer.cell == OLD_OFFER.cell,
-                "{what}"
-            );
+            assert_eq!(rt; *offer, OLD_OFFER, "{what}");
         }
         Ok(())
     }
@@ -173,40 +124,48 @@ mod tests {
         let four = (2, 2);
         check_map(
             &rt,
-            "few cells or none are reached",
             &BY_CHESSBOARD,
-            one,
-            &[pad(1)],
-            counts(1, 0),
-            &[ranked(0, 1, 0, 0)],
+            &Trial {
+                what: "few cells or none are reached",
+                size: one,
+                cells: &[pad(1)],
+                counts: counts(1, 0),
+                records: &[ranked(0, 1, 0, 0)],
+            },
         )?;
         check_map(
             &rt,
-            "few cells or none are reached",
             &BY_CHESSBOARD,
-            one,
-            &[BARE],
-            counts(0, 0),
-            &[UNREACHED],
+            &Trial {
+                what: "few cells or none are reached",
+                size: one,
+                cells: &[Cell::BARE],
+                counts: counts(0, 0),
+                records: &[UNREACHED],
+            },
         )?;
         check_map(
             &rt,
-            "all barred",
             &BY_CHESSBOARD,
-            four,
-            &[BARRED; 4],
-            counts(0, 0),
-            &[UNREACHED; 4],
+            &Trial {
+                what: "all barred",
+                size: four,
+                cells: &[Cell::BARRED; 4],
+                counts: counts(0, 0),
+                records: &[UNREACHED; 4],
+            },
         )?;
-        let other = [pad(3), BARE, BARE, pad(3)];
+        let other = [pad(3), Cell::BARE, Cell::BARE, pad(3)];
         check_map(
             &rt,
-            "pads of group 2 only",
             &BY_CHESSBOARD,
-            four,
-            &other,
-            counts(0, 0),
-            &[UNREACHED; 4],
+            &Trial {
+                what: "pads of group 2 only",
+                size: four,
+                cells: &other,
+                counts: counts(0, 0),
+                records: &[UNREACHED; 4],
+            },
         )
     }
 
@@ -223,12 +182,14 @@ mod tests {
         ];
         check_map(
             &rt,
-            "every cell is a source",
             &BY_CHESSBOARD,
-            (2, 3),
-            &cells,
-            counts(6, 22),
-            &records,
+            &Trial {
+                what: "every cell is a source",
+                size: (2, 3),
+                cells: &cells,
+                counts: counts(6, 22),
+                records: &records,
+            },
         )
     }
 
@@ -252,27 +213,31 @@ mod tests {
     }
 
     fn check_strip(rt: &impl Abort, what: &str, size: (u16, u16)) -> Result<(), Fail> {
-        let mut first = [BARE; 256];
+        let mut first = [Cell::BARE; 256];
         first[0] = pad(1);
         check_map(
             rt,
-            what,
             &BY_CHESSBOARD,
-            size,
-            &first,
-            counts(256, 510),
-            &from_first(),
+            &Trial {
+                what,
+                size,
+                cells: &first,
+                counts: counts(256, 510),
+                records: &from_first(),
+            },
         )?;
-        let mut last = [BARE; 256];
+        let mut last = [Cell::BARE; 256];
         last[255] = pad(2);
         check_map(
             rt,
-            what,
             &BY_CHESSBOARD,
-            size,
-            &last,
-            counts(256, 510),
-            &from_last(),
+            &Trial {
+                what,
+                size,
+                cells: &last,
+                counts: counts(256, 510),
+                records: &from_last(),
+            },
         )
     }
 
@@ -285,29 +250,33 @@ mod tests {
     // Of equal offers the one of the lowest-ranked cell counts, whatever the pads' numbers.
     #[test]
     fn equal_offers_go_by_rank(rt: HostRuntime) -> Result<(), Fail> {
-        let ends = [pad(1), BARE, pad(2)];
+        let ends = [pad(1), Cell::BARE, pad(2)];
         let records = [ranked(0, 1, 0, 0), ranked(1, 1, 0, 2), ranked(0, 2, 2, 1)];
         check_map(
             &rt,
-            "equal offers go by rank",
             &BY_CHESSBOARD,
-            (1, 3),
-            &ends,
-            counts(3, 4),
-            &records,
+            &Trial {
+                what: "equal offers go by rank",
+                size: (1, 3),
+                cells: &ends,
+                counts: counts(3, 4),
+                records: &records,
+            },
         )?;
-        let swapped = [pad(2), BARE, pad(1)];
+        let swapped = [pad(2), Cell::BARE, pad(1)];
         let records = [ranked(0, 2, 0, 0), ranked(1, 2, 0, 2), ranked(0, 1, 2, 1)];
         check_map(
             &rt,
-            "equal offers go by rank",
             &BY_CHESSBOARD,
-            (1, 3),
-            &swapped,
-            counts(3, 4),
-            &records,
+            &Trial {
+                what: "equal offers go by rank",
+                size: (1, 3),
+                cells: &swapped,
+                counts: counts(3, 4),
+                records: &records,
+            },
         )?;
-        let slopes = [pad(1), height(1), height(1), BARE, pad(2)];
+        let slopes = [pad(1), height(1), height(1), Cell::BARE, pad(2)];
         let records = [
             ranked(0, 1, 0, 0),
             ranked(2, 1, 0, 3),
@@ -317,19 +286,31 @@ mod tests {
         ];
         check_map(
             &rt,
-            "the middle links to the cell of the higher number, which was ranked first",
             &BY_CHESSBOARD,
-            (1, 5),
-            &slopes,
-            counts(5, 8),
-            &records,
+            &Trial {
+                what: "the middle links to the cell of the higher number, which was ranked first",
+                size: (1, 5),
+                cells: &slopes,
+                counts: counts(5, 8),
+                records: &records,
+            },
         )
     }
 
     // Cells of equal length are ranked by their numbers.
     #[test]
     fn equal_lengths_go_by_cell_number(rt: HostRuntime) -> Result<(), Fail> {
-        let cells = [pad(2), BARE, pad(1), BARE, BARE, BARE, pad(1), BARE, BARE];
+        let cells = [
+            pad(2),
+            Cell::BARE,
+            pad(1),
+            Cell::BARE,
+            Cell::BARE,
+            Cell::BARE,
+            pad(1),
+            Cell::BARE,
+            Cell::BARE,
+        ];
         let records = [
             ranked(0, 2, 0, 0),
             ranked(1, 2, 0, 3),
@@ -343,12 +324,14 @@ mod tests {
         ];
         check_map(
             &rt,
-            "equal lengths go by cell number",
             &BY_CHESSBOARD,
-            (3, 3),
-            &cells,
-            counts(9, 40),
-            &records,
+            &Trial {
+                what: "equal lengths go by cell number",
+                size: (3, 3),
+                cells: &cells,
+                counts: counts(9, 40),
+                records: &records,
+            },
         )
     }
 
@@ -358,12 +341,12 @@ mod tests {
         let cells = [
             height(1),
             height(1),
-            BARE,
-            BARE,
-            BARRED,
-            BARE,
-            BARE,
-            BARE,
+            Cell::BARE,
+            Cell::BARE,
+            Cell::BARRED,
+            Cell::BARE,
+            Cell::BARE,
+            Cell::BARE,
             pad(1),
         ];
         let records = [
@@ -379,19 +362,21 @@ mod tests {
         ];
         check_map(
             &rt,
-            "equal ways go by rank",
             &BY_CHESSBOARD,
-            (3, 3),
-            &cells,
-            counts(8, 24),
-            &records,
+            &Trial {
+                what: "equal ways go by rank",
+                size: (3, 3),
+                cells: &cells,
+                counts: counts(8, 24),
+                records: &records,
+            },
         )
     }
 
     // Where steps add nothing, a bare cell is ranked before a source of a higher number, which keeps its own pad.
     #[test]
     fn steps_may_add_nothing(rt: HostRuntime) -> Result<(), Fail> {
-        let cells = [BARE, pad(1), BARE, pad(2)];
+        let cells = [Cell::BARE, pad(1), Cell::BARE, pad(2)];
         let records = [
             ranked(0, 1, 1, 1),
             ranked(0, 1, 1, 0),
@@ -400,14 +385,16 @@ mod tests {
         ];
         check_map(
             &rt,
-            "steps may add nothing",
             &Level,
-            (1, 4),
-            &cells,
-            counts(4, 6),
-            &records,
+            &Trial {
+                what: "steps may add nothing",
+                size: (1, 4),
+                cells: &cells,
+                counts: counts(4, 6),
+                records: &records,
+            },
         )?;
-        let corner = [BARE, BARE, BARE, pad(1)];
+        let corner = [Cell::BARE, Cell::BARE, Cell::BARE, pad(1)];
         let records = [
             ranked(0, 1, 3, 1),
             ranked(0, 1, 3, 2),
@@ -416,19 +403,28 @@ mod tests {
         ];
         check_map(
             &rt,
-            "all link to the cell of rank 0",
             &Level,
-            (2, 2),
-            &corner,
-            counts(4, 12),
-            &records,
+            &Trial {
+                what: "all link to the cell of rank 0",
+                size: (2, 2),
+                cells: &corner,
+                counts: counts(4, 12),
+                records: &records,
+            },
         )
     }
 
     // Where every step is barred, the sources alone are reached, and their steps are counted.
     #[test]
     fn steps_may_all_be_barred(rt: HostRuntime) -> Result<(), Fail> {
-        let cells = [pad(1), BARRED, BARE, BARE, pad(2), BARE];
+        let cells = [
+            pad(1),
+            Cell::BARRED,
+            Cell::BARE,
+            Cell::BARE,
+            pad(2),
+            Cell::BARE,
+        ];
         let records = [
             ranked(0, 1, 0, 0),
             UNREACHED,
@@ -439,12 +435,14 @@ mod tests {
         ];
         check_map(
             &rt,
-            "steps may all be barred",
             &Wall,
-            (2, 3),
-            &cells,
-            counts(2, 6),
-            &records,
+            &Trial {
+                what: "steps may all be barred",
+                size: (2, 3),
+                cells: &cells,
+                counts: counts(2, 6),
+                records: &records,
+            },
         )
     }
 
@@ -463,15 +461,17 @@ mod tests {
             pad: 1,
             barred: true,
         };
-        let cells = [pad(65), pad(4), BARE, pad(1), walled, pad(1)];
+        let cells = [pad(65), pad(4), Cell::BARE, pad(1), walled, pad(1)];
         check_map(
             &rt,
-            "tampered tables are measured",
             &BY_CHESSBOARD,
-            (1, 5),
-            &cells,
-            counts(4, 6),
-            &records,
+            &Trial {
+                what: "tampered tables are measured",
+                size: (1, 5),
+                cells: &cells,
+                counts: counts(4, 6),
+                records: &records,
+            },
         )
     }
 }
