@@ -56,10 +56,7 @@ impl Gauge for Terrace {
     ghost lawful = { λ _. ruler_lawful whole_laws terrace_ruled };
 
     fn carry(&self, step: Step, length: Whole) -> Option<Whole> {
-        match self.span(step) {
-            Some(own) => Some(length.saturating_add(own)),
-            None => None,
-        }
+        self.span(step).map(|own| self.sum(length, own))
     }
 }
 
@@ -99,18 +96,14 @@ pub fn rising(rise: u16, along_row: bool) -> Step {
 
 // The units of a step by a ruler over whole lengths.
 pub fn units_by<R: Ruler<Length = Whole>>(ruler: &R, step: Step) -> Option<u64> {
-    match ruler.span(step) {
-        Some(length) => Some(length.units),
-        None => None,
-    }
+    ruler.span(step).map(|length| length.units)
 }
 
 // What a gauge over whole lengths carries from a length.
 pub fn carried_by<G: Gauge<Length = Whole>>(gauge: &G, step: Step, units: u64) -> Option<u64> {
-    match gauge.carry(step, Whole::new(units)) {
-        Some(length) => Some(length.units),
-        None => None,
-    }
+    gauge
+        .carry(step, Whole::new(units))
+        .map(|length| length.units)
 }
 
 #[cfg(test)]
@@ -142,7 +135,7 @@ mod tests {
     }
 
     #[test]
-    fn rulers_have_their_formulas(rt: HostRuntime) -> Result<(), Fail> {
+    fn rulers_have_their_formulas(rt: HostRuntime) {
         let chessboard = WholeRuler(Chessboard);
         assert_eq!(rt; units_by(&chessboard, rising(0, false)), Some(1));
         assert_eq!(rt; units_by(&chessboard, rising(65535, true)), Some(65536));
@@ -153,12 +146,10 @@ mod tests {
         assert_eq!(rt; units_by(&euclid, rising(255, false)), Some(65281));
         assert_eq!(rt; units_by(&euclid, rising(256, false)), Some(65536));
         assert_eq!(rt; units_by(&euclid, rising(65535, false)), Some(16776960));
-        let counted = CountedChessboard;
-        let Some(length) = counted.carry(rising(5, true), Counted::new(6, 1)) else {
-            return Err(Fail::new("barred"));
-        };
-        assert!(rt; length.units == 12 && length.steps == 2);
-        Ok(())
+        assert_eq!(rt;
+            CountedChessboard.carry(rising(5, true), Counted::new(6, 1)),
+            Some(Counted::new(12, 2))
+        );
     }
 
     #[test]
@@ -244,13 +235,19 @@ mod tests {
     #[test]
     fn sums_stop_at_the_greatest(rt: HostRuntime) {
         let top = u64::MAX;
-        assert!(rt; Whole::new(top - 1).saturating_add(Whole::new(1)).units == top);
-        assert!(rt; Whole::new(top).saturating_add(Whole::new(2)).units == top);
-        let exact = Counted::new(top - 1, 3).saturating_add(Counted::new(1, 1));
-        assert!(rt; exact.units == top && exact.steps == 4);
-        let beyond = Counted::new(top - 1, 3).saturating_add(Counted::new(2, 1));
-        assert!(rt; beyond.units == top && beyond.steps == top);
-        let bad = Counted::decode(CountedRow { units: 3, steps: 4 });
-        assert!(rt; bad.units == 0 && bad.steps == 0);
+        let greatest = Whole::new(top);
+        assert_eq!(rt; Whole::new(top - 1).saturating_add(Whole::new(1)), greatest);
+        assert_eq!(rt; greatest.saturating_add(Whole::new(2)), greatest);
+        let below = Counted::new(top - 1, 3);
+        assert_eq!(rt;
+            below.saturating_add(Counted::new(1, 1)),
+            Counted::new(top, 4)
+        );
+        assert_eq!(rt;
+            below.saturating_add(Counted::new(2, 1)),
+            Counted::new(top, top)
+        );
+        let bad = CountedRow { units: 3, steps: 4 };
+        assert_eq!(rt; Counted::decode(bad), Counted::new(0, 0));
     }
 }

@@ -1,6 +1,7 @@
 -- Either layer over a lawful gauge is lawful, and over a lawful ruler a lawful ruler. Assumes nothing.
 use Rattle.std.specs.Prelude.{◌≡◌, ℕ, zero, suc, ◌+◌, ◌<◌, Bool, true, false, cond, ◌||◌, List, [], ◌∷◌, length, drop, Some, None, slice_index_or, refl}
 use Rattle.std.proofs.Common.{sym, ap, ◌∙◌, ⊎_elim, add-one, arith}
+use Rattle.std.proofs.Math.Bool.{or_comm}
 use Rattle.std.proofs.lemmas.List.{drop_more}
 use Rattle.std.proofs.lemmas.Bool.{or_parts}
 use Rattle.lengths.specs.Kinds.{Kind, Rows, KindLaws}
@@ -61,16 +62,10 @@ fenced_lawful fs g below = record {
   ordered = λ s genuine unbarred. below.ordered s genuine (or_parts _ _ unbarred).1;
 }
 
-or_swap : (a b : Bool) → (a || b) ≡ (b || a)
-or_swap true true = refl
-or_swap true false = refl
-or_swap false true = refl
-or_swap false false = refl
-
 -- a fence bars a step both ways
 fenced_back : (fs : List Rectangle) (s : Step) → fenced fs (reversed s) ≡ fenced fs s
 fenced_back [] s = refl
-fenced_back (f ∷ fs) s = λ i. or_swap (inside f s.to) (inside f s.from) i || fenced_back fs s i
+fenced_back (f ∷ fs) s = λ i. or_comm (inside f s.to) (inside f s.from) i || fenced_back fs s i
 
 pub fenced_ruled : {L : Type 0} {kind : Kind L} (fs : List Rectangle) (r : Ruling L) → RulerLaws kind r → RulerLaws kind (fenced_ruling fs r)
 fenced_ruled fs r below = record {

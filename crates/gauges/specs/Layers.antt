@@ -1,5 +1,6 @@
 -- The two layers: weighting and fence. Assumes nothing.
-use Rattle.std.specs.Prelude.{ℕ, zero, suc, Bool, false, ◌&&◌, ◌||◌, List, [], ◌∷◌, take, None, Option, nat_le, nat_lt}
+use Rattle.std.specs.Prelude.{ℕ, zero, suc, Bool, ◌&&◌, ◌||◌, List, take, None, Option, nat_le, nat_lt}
+use Rattle.std.specs.List.{list_any}
 use Rattle.board.specs.Refusals.{refuse}
 use Rattle.board.specs.declared.refusal.Refusal.{Refusal}
 use Rattle.board.specs.declared.refusal.Refusal.TheVariants as refusal
@@ -41,8 +42,7 @@ touches f s = inside f s.from || inside f s.to
 
 -- a step with an end in any of the rectangles
 abbrev pub fenced : List Rectangle → Step → Bool
-fenced [] s = false
-fenced (f ∷ fs) s = touches f s || fenced fs s
+fenced fs s = list_any (λ f. touches f s) fs
 
 abbrev pub fenced_crossing : {L : Type 0} → List Rectangle → Crossing L → Crossing L
 fenced_crossing fs g = record { barred = λ s. fenced fs s || g.barred s; carried = g.carried }

@@ -1,7 +1,7 @@
 -- A lawful ruler is a lawful gauge, and the product's rulers are lawful. Assumes nothing.
 use Rattle.std.specs.Prelude.{◌≡◌, ℕ, true, refl}
 use Rattle.std.proofs.Common.{ap, subst, arith}
-use Rattle.std.proofs.lemmas.Bool.{leb-true, le-leb}
+use Rattle.std.proofs.lemmas.Bool.Decides.{nat_tests}
 use Rattle.lengths.specs.Kinds.{Kind, Rows, KindLaws}
 use Rattle.lengths.specs.Wholes.{whole, whole_kind}
 use Rattle.lengths.specs.Counteds.{counted, counted_kind}
@@ -33,7 +33,7 @@ whole_ruler units alike = record {
   assoc = wholes.sum_assoc;
   comm = λ a b. same_units _ _ (omega arith);
   unit = λ a. same_units _ _ (omega (arith, a.fits));
-  ordered = λ a b c le. le-leb _ _ (omega (arith, leb-true a.units b.units le));
+  ordered = λ a b c le. grind (arith, nat_tests);
   barred_back = λ _ _. refl;
   span_back = λ s genuine _. ap whole (alike s genuine);
 }

@@ -1,7 +1,7 @@
 // The two layers: either over any gauge is a gauge, and over any ruler a ruler.
 ghost use Rattle.std.specs.Prelude.{◌≡◌, ◌<◌, [], ◌∷◌, ◌++◌, Some, None, MatchResult};
 ghost use Rattle.board.specs.Refusals.{after, answered};
-ghost use Rattle.gauges.specs.Layers.{added, fenced, fenced_crossing, fenced_ruling, inside, rectangle_refusal, touches, weighted_crossing, weighted_ruling, weighting_refusal};
+ghost use Rattle.gauges.specs.Layers.{added, bad_rectangle, fenced, fenced_crossing, fenced_ruling, inside, rectangle_refusal, touches, weighted_crossing, weighted_ruling, weighting_refusal};
 ghost use Rattle.gauges.specs.LayerLaw.{weighted_lawful, weighted_ruled, weighted_adds, fenced_lawful, fenced_ruled, fenced_adds};
 
 use crate::{Gauge, Point, Rectangle, Rectangles, Ruler, Step, Weighting};
@@ -39,7 +39,7 @@ impl<G: Gauge> Gauge for Weighting<G> {
 
     fn carry(&self, step: Step, length: G::Length) -> Option<G::Length> {
         let mut carried = length;
-        for turn in 0..self.factor {
+        for _ in 0..self.factor {
             carried = self.gauge.carry(step, carried)?;
         }
         Some(carried)
@@ -56,7 +56,7 @@ impl<R: Ruler> Ruler for Weighting<R> {
     fn span(&self, step: Step) -> Option<R::Length> {
         let own = self.gauge.span(step)?;
         let mut sum = <R::Length as Length>::zero();
-        for turn in 0..self.factor {
+        for _ in 0..self.factor {
             sum = self.gauge.sum(sum, own);
         }
         Some(sum)
@@ -72,8 +72,16 @@ impl Rectangle {
     fn holds(self, point: Point) -> bool
         ensures { result ≡ inside self point }
     {
-        let in_rows = self.first_row <= point.row && point.row <= self.last_row;
-        in_rows && self.first_column <= point.column && point.column <= self.last_column
+        (self.first_row..=self.last_row).contains(&point.row)
+            && (self.first_column..=self.last_column).contains(&point.column)
+    }
+
+    // A first above its last, or a figure above 255.
+    fn is_faulty(self) -> bool
+        ensures { result ≡ bad_rectangle self }
+    {
+        let turned = self.first_row > self.last_row || self.first_column > self.last_column;
+        turned || self.last_row > 255 || self.last_column > 255
     }
 
     // Whether the step has an end in the rectangle.
@@ -88,14 +96,8 @@ impl Rectangles {
     pub fn new() -> Rectangles
         ensures { added result ≡ [] }
     {
-        let none = Rectangle {
-            first_row: 0,
-            first_column: 0,
-            last_row: 0,
-            last_column: 0,
-        };
         Rectangles {
-            list: [none; 16],
+            list: [Rectangle::default(); 16],
             count: 0,
         }
     }
@@ -103,12 +105,7 @@ impl Rectangles {
     fn may_add(&self, rectangle: Rectangle) -> Result<(), Refusal>
         ensures { MatchResult result (λ _. (rectangle_refusal self.now rectangle ≡ None) × (self.now.count < 16)) (λ e. rectangle_refusal self.now rectangle ≡ Some e) }
     {
-        if rectangle.first_row > rectangle.last_row
-            || rectangle.first_column > rectangle.last_column
-        {
-            return Err(Refusal::Setting);
-        }
-        if rectangle.last_row > 255 || rectangle.last_column > 255 {
+        if rectangle.is_faulty() {
             return Err(Refusal::Setting);
         }
         if self.count >= 16 {
@@ -132,20 +129,8 @@ impl Rectangles {
     fn bar(&self, step: Step) -> bool
         ensures { result ≡ fenced (added self.now) step }
     {
-        any_bars(&self.list[0..self.count], step)
+        self.list[..self.count].iter().any(|r| r.bars(step))
     }
-}
-
-// Whether a step has an end in any of the rectangles.
-fn any_bars(rectangles: &[Rectangle], step: Step) -> bool
-    ensures { result ≡ fenced rectangles.now step }
-{
-    for rectangle in rectangles {
-        if rectangle.bars(step) {
-            return true;
-        }
-    }
-    false
 }
 
 // Bars each step with an end in one of its rectangles, which do not change any more.

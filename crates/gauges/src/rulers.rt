@@ -1,4 +1,5 @@
 // The four rulers. None of them bars a step.
+// Each carries by one and the same line: a function over any ruler would lead back to its own gauge, and such a cycle gets no proof.
 ghost use Rattle.std.specs.Prelude.{◌≡◌, ℕ};
 ghost use Rattle.gauges.specs.Meanings.{Lawful, Ruling, RulerLaws, adding};
 ghost use Rattle.gauges.specs.Rulers.{counted_chessboard, whole_ruling};
@@ -6,7 +7,7 @@ ghost use Rattle.gauges.specs.Steps.{Genuine, reversed};
 ghost use Rattle.gauges.specs.declared.step.Step.{Step as TheStep};
 ghost use Rattle.gauges.specs.RulerLaw.{whole_gauge, whole_ruler, by_adding, counted_gauge, counted_ruler};
 
-use crate::{Gauge, Ruler, Step};
+use crate::{Chessboard, Gauge, Ruler, Step};
 use lengths::{Counted, Length, Whole};
 
 // A formula gives each step its length in whole units.
@@ -31,7 +32,7 @@ impl<F: Formula> Gauge for WholeRuler<F> {
     ghost lawful = { λ x. whole_gauge (F.Formula.units x.0) (F.Formula.alike x.0) };
 
     fn carry(&self, step: Step, length: Whole) -> Option<Whole> {
-        Some(length.saturating_add(Whole::new(self.0.units_of(step))))
+        self.span(step).map(|own| self.sum(length, own))
     }
 }
 
@@ -60,14 +61,6 @@ pub fn rulers_serve_as_gauges<K: Length>()
 #[derive(Clone, Copy)]
 pub struct CountedChessboard;
 
-impl CountedChessboard {
-    fn length_of(self, step: Step) -> Counted
-        ensures { result ≡ counted_chessboard.span step }
-    {
-        Counted::new(step.rise() + 1, 1)
-    }
-}
-
 impl Gauge for CountedChessboard {
     type Length = Counted;
 
@@ -76,7 +69,7 @@ impl Gauge for CountedChessboard {
     ghost lawful = { λ _. counted_gauge };
 
     fn carry(&self, step: Step, length: Counted) -> Option<Counted> {
-        Some(length.saturating_add(self.length_of(step)))
+        self.span(step).map(|own| self.sum(length, own))
     }
 }
 
@@ -88,7 +81,7 @@ impl Ruler for CountedChessboard {
     ghost adds = { λ _. by_adding counted_chessboard };
 
     fn span(&self, step: Step) -> Option<Counted> {
-        Some(self.length_of(step))
+        Some(Counted::new(Chessboard.units_of(step), 1))
     }
 
     fn sum(&self, a: Counted, b: Counted) -> Counted {

@@ -1,9 +1,8 @@
 -- Counted lengths keep the laws of a kind, and their sums those of a ruler. Assumes nothing.
 use Rattle.std.specs.Prelude.{◌≡◌, ◌+◌, ◌-◌, ◌^◌, ◌<◌, ◌≤◌, Bool, true, ◌⊎◌}
-use Rattle.std.proofs.Common.{ap, ◌∙◌, inl, inr, ⊎_elim, arith}
+use Rattle.std.proofs.Common.{arith}
 use mathlib.Core.HLevel.{is_prop→PathP}
 use Rattle.std.proofs.Math.Bridge.{le_prop}
-use Rattle.std.proofs.lemmas.Bool.{cases_lt, cond-true, cond-false, le-leb, lt-ltb, le-ltb}
 use Rattle.std.proofs.lemmas.Bool.Decides.{nat_tests}
 use Rattle.lengths.specs.Kinds.{KindLaws}
 use Rattle.lengths.specs.Counteds.{counted, counted_kind, counted_rows, counted_sum}
@@ -21,40 +20,18 @@ same_counts a b u s = λ i. record {
 abbrev le : Counted → Counted → Bool
 le = counted_kind.le
 
-total : (a b : Counted) → (le a b ≡ true) ⊎ (le b a ≡ true)
-total a b = grind (arith, nat_tests)
-
-transitive : (a b c : Counted) → le a b ≡ true → le b c ≡ true → le a c ≡ true
-transitive a b c p q = grind (arith, nat_tests)
-
-equal_units : (a b : Counted) → le a b ≡ true → le b a ≡ true → a.units ≡ b.units
-equal_units a b p q = grind (arith, nat_tests)
-
-equal_steps : (a b : Counted) → le a b ≡ true → le b a ≡ true → a.steps ≡ b.steps
-equal_steps a b p q = grind (arith, nat_tests)
-
 pub counted_laws : KindLaws counted_kind counted_rows
 counted_laws = record {
-  total = total;
-  transitive = transitive;
-  equal = λ a b p q. same_counts a b (equal_units a b p q) (equal_steps a b p q);
+  total = λ a b. grind (arith, nat_tests);
+  transitive = λ a b c p q. grind (arith, nat_tests);
+  equal = λ a b p q. same_counts a b (grind (arith, nat_tests)) (grind (arith, nat_tests));
   least = λ a. grind (arith, nat_tests);
-  same = λ a.
-      cond-true _ _ _ (le-leb a.steps a.units a.few)
-      ∙ same_counts (counted a.units a.steps) a (omega (arith, a.fits)) (omega (arith, a.fits, a.few));
+  same = λ a. same_counts _ _ (grind (arith, nat_tests, a.fits, a.few)) (grind (arith, nat_tests, a.fits, a.few));
 }
 
 -- what a sum comes to, below the greatest length and beyond it
 pub sum_tells : (a b : Counted) → ((a.units + b.units < 2 ^ 64) × ((counted_sum a b).units ≡ a.units + b.units) × ((counted_sum a b).steps ≡ a.steps + b.steps)) ⊎ ((2 ^ 64 ≤ a.units + b.units) × ((counted_sum a b).units ≡ 2 ^ 64 - 1) × ((counted_sum a b).steps ≡ 2 ^ 64 - 1))
-sum_tells a b =
-    ⊎_elim
-    (λ below.
-    let is : counted_sum a b ≡ counted (a.units + b.units) (a.steps + b.steps) = cond-true _ _ _ (lt-ltb _ _ below) in
-    inl (below, ap (λ x. x.units) is ∙ omega arith, ap (λ x. x.steps) is ∙ omega (arith, a.few, b.few)))
-    (λ beyond.
-    let is : counted_sum a b ≡ counted (2 ^ 64 - 1) (2 ^ 64 - 1) = cond-false _ _ _ (le-ltb _ _ beyond) in
-    inr (beyond, ap (λ x. x.units) is, ap (λ x. x.steps) is))
-    (cases_lt (a.units + b.units) (2 ^ 64))
+sum_tells a b = grind (arith, nat_tests, a.few, b.few)
 
 pub sum_assoc : (a b c : Counted) → counted_sum (counted_sum a b) c ≡ counted_sum a (counted_sum b c)
 sum_assoc a b c =

@@ -41,7 +41,7 @@ impl Length for Counted {
     }
 
     fn at_most(self, other: Counted) -> bool {
-        self.units < other.units || self.units == other.units && self.steps <= other.steps
+        self <= other
     }
 
     fn encode(self) -> CountedRow {
@@ -55,7 +55,7 @@ impl Length for Counted {
         if row.steps <= row.units {
             Counted::new(row.units, row.steps)
         } else {
-            Counted::new(0, 0)
+            Counted::zero()
         }
     }
 }

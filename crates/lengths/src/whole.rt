@@ -1,7 +1,7 @@
 // Whole lengths of 64 bits.
 ghost use Rattle.std.specs.Prelude.{◌^◌, ◌<◌};
 
-#[derive(Clone, Copy)]
+#[derive(Clone, Copy, Debug, PartialEq, Eq, PartialOrd, Ord)]
 pub struct Whole {
     pub units: u64,
     ghost fits: { units < 2 ^ 64 },

@@ -34,7 +34,7 @@ impl Length for Whole {
     }
 
     fn at_most(self, other: Whole) -> bool {
-        self.units <= other.units
+        self <= other
     }
 
     fn encode(self) -> u64 {
