@@ -71,7 +71,8 @@ const STEEP: u64 = 256;
 #[derive(Clone, Copy)]
 pub struct Euclid;
 
-// The root of a square, rounded down, by halving the width in which it lies from `low` on.
+// The root of a square, rounded down, by halving the width in which it lies from `low` on. `isqrt`, which begins with a
+// width of 2^32, takes four times as long.
 fn root_within(low: u64, width: u64, square: u64) -> u64
     requires { (low * low ≤ square) × ((square < (low + width) * (low + width)) × (low + width < 2 ^ 32)) }
     ensures { Root square result }
