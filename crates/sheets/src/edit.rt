@@ -29,20 +29,18 @@ pub fn open_plate(
     cells: &mut [Cell],
     groups: &mut [u8],
 ) -> Result<Draft, Fault> {
-    match Draft::open(rows, columns, cells, groups) {
-        Ok(draft) => Ok(draft),
-        Err(refusal) => {
-            let field = match refusal {
-                Refusal::Size => { if rows == 0 || rows > 256 { 1 } else { 2 } }
-                _ => 0,
-            };
-            Err(Fault {
-                line: 1,
-                field,
-                refusal,
-            })
+    Draft::open(rows, columns, cells, groups).map_err(|refusal| {
+        let field = match refusal {
+            Refusal::Size if rows == 0 || rows > 256 => 1,
+            Refusal::Size => 2,
+            _ => 0,
+        };
+        Fault {
+            line: 1,
+            field,
+            refusal,
         }
-    }
+    })
 }
 
 // The field of the row where that is off the plate, else of the column.
@@ -70,22 +68,18 @@ impl Edit {
             Edit::Bar { row, column } => draft.bar(cells, row, column),
             Edit::Enrol { pad, group } => draft.enrol(groups, pad, group),
         };
-        match answer {
-            Ok(()) => Ok(()),
-            Err(refusal) => Err(Fault {
-                line,
-                field: self.field_at_fault(size, refusal),
-                refusal,
-            }),
-        }
+        answer.map_err(|refusal| Fault {
+            line,
+            field: self.field_at_fault(size, refusal),
+            refusal,
+        })
     }
 
     // The first field that a refusal speaks of, on a plate of this size.
     fn field_at_fault(self, size: Size, refusal: Refusal) -> u8 {
         match (self, refusal) {
-            (Edit::Cell { row, .. }, Refusal::Off) => field_off(size, row),
+            (Edit::Cell { row, .. } | Edit::Bar { row, .. }, Refusal::Off) => field_off(size, row),
             (Edit::Cell { .. }, Refusal::Pad) => 4,
-            (Edit::Bar { row, .. }, Refusal::Off) => field_off(size, row),
             (Edit::Enrol { .. }, Refusal::Pad) => 1,
             (Edit::Enrol { .. }, Refusal::Group) => 2,
             _ => 0,

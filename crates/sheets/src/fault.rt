@@ -4,7 +4,7 @@ use board::Refusal;
 use std::fmt;
 
 // Who found the fault: the plate's own call, the reading of a figure, or the reading of the sheet.
-#[derive(Clone, Copy, Debug, PartialEq)]
+#[derive(Clone, Copy, Debug, PartialEq, Eq)]
 pub enum Layer {
     Plate,
     Figure,
@@ -18,6 +18,12 @@ impl Layer {
             Layer::Figure => "figure",
             Layer::Sheet => "sheet",
         }
+    }
+}
+
+impl fmt::Display for Layer {
+    fn fmt<W: fmt::Write>(&self, f: &mut fmt::Formatter<W>) -> fmt::Result {
+        f.write_str(self.name())
     }
 }
 
@@ -40,11 +46,9 @@ impl Fault {
 
     pub fn layer(self) -> Layer {
         match self.refusal {
-            Refusal::Size => Layer::Plate,
-            Refusal::Tables => Layer::Plate,
-            Refusal::Off => Layer::Plate,
-            Refusal::Pad => Layer::Plate,
-            Refusal::Group => Layer::Plate,
+            Refusal::Size | Refusal::Tables | Refusal::Off | Refusal::Pad | Refusal::Group => {
+                Layer::Plate
+            }
             Refusal::Figure => Layer::Figure,
             _ => Layer::Sheet,
         }
@@ -53,7 +57,7 @@ impl Fault {
 
 impl fmt::Display for Fault {
     fn fmt<W: fmt::Write>(&self, f: &mut fmt::Formatter<W>) -> fmt::Result {
-        let layer = self.layer().name();
+        let layer = self.layer();
         let line = self.line;
         let field = self.field;
         let number = self.refusal.number();

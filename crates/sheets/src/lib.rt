@@ -3,6 +3,7 @@
 
 pub mod edit;
 pub mod fault;
+mod line;
 pub mod lines;
 pub mod reader;
 pub mod token;

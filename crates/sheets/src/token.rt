@@ -3,7 +3,7 @@ use crate::Fault;
 use board::Refusal;
 
 // Where a field stands: its line, counted from 1, and its number in the line; the line's word is field 0.
-#[derive(Clone, Copy, Debug, PartialEq)]
+#[derive(Clone, Copy, Debug, PartialEq, Eq)]
 pub struct Place {
     pub line: usize,
     pub field: u8,
@@ -17,7 +17,7 @@ pub enum Token<'a> {
 }
 
 // The words that a line can begin with.
-#[derive(Clone, Copy, Debug, PartialEq)]
+#[derive(Clone, Copy, Debug, PartialEq, Eq)]
 pub enum Keyword {
     Plate,
     Cell,
@@ -30,44 +30,44 @@ impl Keyword {
     pub fn figures(self) -> usize {
         match self {
             Keyword::Cell => 4,
-            _ => 2,
+            Keyword::Plate | Keyword::Bar | Keyword::Enrol => 2,
+        }
+    }
+}
+
+// Another word is a fault of its line.
+impl TryFrom<&[u8]> for Keyword {
+    type Error = Refusal;
+
+    fn try_from(word: &[u8]) -> Result<Keyword, Refusal> {
+        match word {
+            b"plate" => Ok(Keyword::Plate),
+            b"cell" => Ok(Keyword::Cell),
+            b"bar" => Ok(Keyword::Bar),
+            b"enrol" => Ok(Keyword::Enrol),
+            _ => Err(Refusal::Line),
         }
     }
 }
 
 // The number that decimal digits stand for: no 0 before a digit, and at most 65,535.
 fn number(digits: &[u8]) -> Option<u16> {
-    if digits.is_empty() || digits.len() > 1 && digits[0] == b'0' {
+    if matches!(digits, [] | [b'0', _, ..]) {
         return None;
     }
-    let mut value: u32 = 0;
-    for digit in digits {
-        match *digit {
-            b'0'..=b'9' => value = value * 10 + u32::from(*digit - b'0'),
-            _ => return None,
-        }
-        if value > 65535 {
-            return None;
-        }
-    }
-    Some(value as u16)
+    digits.iter().try_fold(0, |value: u16, digit| match digit {
+        b'0'..=b'9' => value.checked_mul(10)?.checked_add(u16::from(*digit - b'0')),
+        _ => None,
+    })
 }
 
 impl Token<'_> {
     // What the word says; another word is a fault of the line.
     pub fn keyword(self) -> Result<Keyword, Fault> {
         match self {
-            Token::Word {
-                bytes: b"plate",
-                ..
-            } => Ok(Keyword::Plate),
-            Token::Word { bytes: b"cell", .. } => Ok(Keyword::Cell),
-            Token::Word { bytes: b"bar", .. } => Ok(Keyword::Bar),
-            Token::Word {
-                bytes: b"enrol",
-                ..
-            } => Ok(Keyword::Enrol),
-            Token::Word { place, .. } => Err(Fault::at(place, Refusal::Line)),
+            Token::Word { bytes, place } => {
+                Keyword::try_from(bytes).map_err(|refusal| Fault::at(place, refusal))
+            }
             Token::Figure { place, .. } => Err(Fault::at(place, Refusal::Line)),
         }
     }
@@ -75,10 +75,9 @@ impl Token<'_> {
     // What the figure says.
     pub fn figure(self) -> Result<u16, Fault> {
         match self {
-            Token::Figure { bytes, place } => match number(bytes) {
-                Some(value) => Ok(value),
-                None => Err(Fault::at(place, Refusal::Figure)),
-            },
+            Token::Figure { bytes, place } => {
+                number(bytes).ok_or(Fault::at(place, Refusal::Figure))
+            }
             Token::Word { place, .. } => Err(Fault::at(place, Refusal::Figure)),
         }
     }
