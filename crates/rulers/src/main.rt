@@ -3,84 +3,33 @@
 #![tactic(auto)]
 
 use board::{Cell, MapRecord, Refusal};
+use ending::{Stop, finish};
 use gauges::{
-    Chessboard, CountedChessboard, Euclid, Fence, Rectangle, Rectangles, Ruler, SentBack,
-    ThreeFour, Weighting, WholeRuler,
+    Chessboard, CountedChessboard, Euclid, Fence, Rectangle, Rectangles, Ruler, ThreeFour,
+    Weighting, WholeRuler,
 };
 use lengths::{Counted, Length, Whole};
 use measuring::RowOf;
 use plate::Draft;
 use queue::Offer;
-use std::alloc::AllocError;
-use std::io;
+use std::{fmt, io};
 
 // The board's 3 rows of 4 cells.
 const CELLS: usize = 12;
 
-// Why the program ends early.
-#[derive(Drop)]
-enum Stop {
-    Refused(Refusal),
-    System(io::Error),
-}
+// A length as it is printed: its units, and its steps where they are counted.
+#[derive(Clone, Copy)]
+struct Printed<L>(L);
 
-impl From<Refusal> for Stop {
-    fn from(refusal: Refusal) -> Stop {
-        Stop::Refused(refusal)
+impl fmt::Display for Printed<Whole> {
+    fn fmt<W: fmt::Write>(&self, f: &mut fmt::Formatter<W>) -> fmt::Result {
+        write!(f, "{}", self.0.units)
     }
 }
 
-impl<G: Drop> From<SentBack<G>> for Stop {
-    fn from(back: SentBack<G>) -> Stop {
-        Stop::Refused(back.refusal)
-    }
-}
-
-impl From<io::Error> for Stop {
-    fn from(error: io::Error) -> Stop {
-        Stop::System(error)
-    }
-}
-
-impl From<AllocError> for Stop {
-    fn from(error: AllocError) -> Stop {
-        Stop::System(error.into())
-    }
-}
-
-// The figures of a length: its units, and its steps where they are counted.
-trait Figures {
-    fn units(&self) -> u64;
-
-    fn steps(&self) -> Option<u64>;
-}
-
-impl Figures for Whole {
-    fn units(&self) -> u64 {
-        self.units
-    }
-
-    fn steps(&self) -> Option<u64> {
-        None
-    }
-}
-
-impl Figures for Counted {
-    fn units(&self) -> u64 {
-        self.units
-    }
-
-    fn steps(&self) -> Option<u64> {
-        Some(self.steps)
-    }
-}
-
-// Prints a length as one more field.
-fn print_length<L: Figures>(rt: &impl Print, length: &L) -> io::Result<()> {
-    let units = length.units();
-    match length.steps() {
-        Some(steps) => print!(rt; "\t{units}/{steps}"),
-        None => print!(rt; "\t{units}"),
+impl fmt::Display for Printed<Counted> {
+    fn fmt<W: fmt::Write>(&self, f: &mut fmt::Formatter<W>) -> fmt::Result {
+        write!(f, "{}/{}", self.0.units, self.0.steps)
     }
 }
 
@@ -105,10 +54,13 @@ fn enter_board(cells: &mut [Cell], groups: &mut [u8]) -> Result<Draft, Refusal> 
 }
 
 // Prints the lengths of a map, and `-` for an unreached cell.
-fn print_map<L: Length + Figures>(rt: &impl Print, map: &[MapRecord<L::Row>]) -> io::Result<()> {
+fn print_map<L: Length>(rt: &impl Print, map: &[MapRecord<L::Row>]) -> io::Result<()>
+where
+    Printed<L>: fmt::Display,
+{
     for record in map {
         if record.reached {
-            print_length(rt, &L::decode(record.length))?;
+            print!(rt; "\t{}", Printed(L::decode(record.length)))?;
         } else {
             print!(rt; "\t-")?;
         }
@@ -119,15 +71,10 @@ fn print_map<L: Length + Figures>(rt: &impl Print, map: &[MapRecord<L::Row>]) ->
 // Measures both groups by a ruler, and prints its line.
 fn measure_by<R: Ruler>(rt: &(impl Print + AllocGlobal), name: &str, ruler: &R) -> Result<(), Stop>
 where
-    R::Length: Figures,
+    Printed<R::Length>: fmt::Display,
     RowOf<R>: Clone,
 {
-    let bare = Cell {
-        height: 0,
-        pad: 0,
-        barred: false,
-    };
-    let mut cells = [bare; CELLS];
+    let mut cells = [Cell::BARE; CELLS];
     let mut groups = [0u8; 64];
     let mut draft = enter_board(&mut cells, &mut groups)?;
     let zero = <R::Length as Length>::zero().encode();
@@ -140,45 +87,37 @@ where
     }; 9 * CELLS]?;
     let counts = draft.measure(ruler, &cells, &groups, 1, &mut first, &mut entries)?;
     draft.measure(ruler, &cells, &groups, 2, &mut second, &mut entries)?;
-    let reached = counts.reached;
-    let steps = counts.steps;
-    print!(rt; "{name}\t{reached}\t{steps}")?;
+    print!(rt; "{name}\t{}\t{}", counts.reached, counts.steps)?;
     print_map::<R::Length>(rt, &first)?;
     match draft.gap(ruler, &first, &second)? {
-        Some(gap) => print_length(rt, &gap)?,
-        None => print!(rt; "\tnone")?,
+        Some(gap) => println!(rt; "\t{}", Printed(gap))?,
+        None => println!(rt; "\tnone")?,
     }
-    println!(rt; "")?;
     Ok(())
+}
+
+// The rectangle between two cells, each by its row and column.
+fn rectangle(first: (u16, u16), last: (u16, u16)) -> Rectangle {
+    Rectangle {
+        first_row: first.0,
+        first_column: first.1,
+        last_row: last.0,
+        last_column: last.1,
+    }
 }
 
 // The cell of pad 1, and the upper right corner.
 fn corners() -> Result<Rectangles, Refusal> {
     let mut rectangles = Rectangles::new();
-    rectangles.add(Rectangle {
-        first_row: 0,
-        first_column: 0,
-        last_row: 0,
-        last_column: 0,
-    })?;
-    rectangles.add(Rectangle {
-        first_row: 0,
-        first_column: 3,
-        last_row: 0,
-        last_column: 3,
-    })?;
+    rectangles.add(rectangle((0, 0), (0, 0)))?;
+    rectangles.add(rectangle((0, 3), (0, 3)))?;
     Ok(rectangles)
 }
 
 // The third column, which parts the groups.
 fn third_column() -> Result<Rectangles, Refusal> {
     let mut rectangles = Rectangles::new();
-    rectangles.add(Rectangle {
-        first_row: 0,
-        first_column: 2,
-        last_row: 255,
-        last_column: 2,
-    })?;
+    rectangles.add(rectangle((0, 2), (255, 2)))?;
     Ok(rectangles)
 }
 
@@ -206,12 +145,5 @@ fn measure_all(rt: &(impl Print + AllocGlobal)) -> Result<(), Stop> {
 }
 
 fn main(rt: HostRuntime) -> io::Result<()> {
-    match measure_all(&rt) {
-        Ok(()) => Ok(()),
-        Err(Stop::Refused(refusal)) => {
-            let number = refusal.number();
-            println!(rt; "refused\t{number}")
-        }
-        Err(Stop::System(error)) => Err(error),
-    }
+    finish(&rt, measure_all(&rt))
 }

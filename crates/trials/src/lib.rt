@@ -11,11 +11,7 @@ use sheets::{Fault, read_sheet};
 // How many cells the tables of a trial hold.
 pub const CELLS: usize = 9;
 
-pub const BARE: Cell = Cell {
-    height: 0,
-    pad: 0,
-    barred: false,
-};
+pub const BARE: Cell = Cell::BARE;
 
 // What measuring both groups of a board came to.
 #[derive(Clone, Copy, Debug, PartialEq)]
@@ -30,30 +26,16 @@ pub fn measure_both(draft: &mut Draft, cells: &[Cell], groups: &[u8]) -> Result<
     let mut first = [MapRecord::unreached(0); CELLS];
     let mut second = [MapRecord::unreached(0); CELLS];
     let mut entries = [Offer { length: 0, cell: 0 }; 81];
-    let one = draft.measure(
-        &WholeRuler(Chessboard),
-        cells,
-        groups,
-        1,
-        &mut first,
-        &mut entries,
-    )?;
-    let two = draft.measure(
-        &WholeRuler(Chessboard),
-        cells,
-        groups,
-        2,
-        &mut second,
-        &mut entries,
-    )?;
-    let gap = match draft.gap(&WholeRuler(Chessboard), &first, &second)? {
-        Some(length) => Some(length.units),
-        None => None,
+    let ruler = WholeRuler(Chessboard);
+    let mut measure = |group: u16, map: &mut [MapRecord<u64>]| {
+        draft.measure(&ruler, cells, groups, group, map, &mut entries)
     };
+    let counts = (measure(1, &mut first)?, measure(2, &mut second)?);
+    let gap = draft.gap(&ruler, &first, &second)?;
     Ok(Outcome {
-        first: one,
-        second: two,
-        gap,
+        first: counts.0,
+        second: counts.1,
+        gap: gap.map(|length| length.units),
     })
 }
 
@@ -62,14 +44,11 @@ pub fn measure_sheet(sheet: &[u8]) -> Result<Outcome, Fault> {
     let mut cells = [BARE; CELLS];
     let mut groups = [0; 64];
     let mut draft = read_sheet(sheet, &mut cells, &mut groups)?;
-    match measure_both(&mut draft, &cells, &groups) {
-        Ok(outcome) => Ok(outcome),
-        Err(refusal) => Err(Fault {
-            line: 0,
-            field: 0,
-            refusal,
-        }),
-    }
+    measure_both(&mut draft, &cells, &groups).map_err(|refusal| Fault {
+        line: 0,
+        field: 0,
+        refusal,
+    })
 }
 
 #[cfg(test)]
@@ -211,10 +190,7 @@ mod tests {
         let mut cells = [BARE; CELLS];
         let mut groups = [0; 64];
         assert!(rt; Draft::open(257, 1, &mut cells, &mut groups).is_err());
-        let mut draft = match Draft::open(2, 3, &mut cells, &mut groups) {
-            Ok(draft) => draft,
-            Err(_) => return Err(Fail::new("not opened")),
-        };
+        let mut draft = Draft::open(2, 3, &mut cells, &mut groups)?;
         assert_eq!(rt; draft.set(&mut cells, 2, 0, 0, 0), Err(Refusal::Off));
         assert_eq!(rt; draft.set(&mut cells, 0, 0, 0, 65), Err(Refusal::Pad));
         assert_eq!(rt;

@@ -1,0 +1,6 @@
+// How a program over a plate ends: what stopped it, and what it prints of that.
+#![tactic(auto)]
+
+pub mod stop;
+
+pub use stop::{Stop, finish};

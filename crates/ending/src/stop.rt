@@ -1,0 +1,71 @@
+// Why a program ends early, and how it ends.
+ghost use Rattle.std.specs.Prelude.{◌≡◌, Ok, Err};
+ghost use Rattle.ending.specs.declared.stop.Stop.TheVariants as stop;
+
+use board::Refusal;
+use gauges::SentBack;
+use sheets::Fault;
+use std::alloc::AllocError;
+use std::io;
+
+// A sheet at fault, a call sent back, or an error of memory, input or output.
+#[derive(Drop)]
+pub enum Stop {
+    Fault(Fault),
+    Refused(Refusal),
+    System(io::Error),
+}
+
+impl From<Fault> for Stop {
+    ghost from_gives = { λ fault end. end ≡ stop.Fault fault };
+
+    fn from(fault: Fault) -> Stop {
+        Stop::Fault(fault)
+    }
+}
+
+impl From<Refusal> for Stop {
+    ghost from_gives = { λ refusal end. end ≡ stop.Refused refusal };
+
+    fn from(refusal: Refusal) -> Stop {
+        Stop::Refused(refusal)
+    }
+}
+
+// The gauge that a layer could not be laid over goes.
+impl<G: Drop> From<SentBack<G>> for Stop {
+    ghost from_gives = { λ back end. end ≡ stop.Refused back.refusal };
+
+    fn from(back: SentBack<G>) -> Stop {
+        Stop::Refused(back.refusal)
+    }
+}
+
+impl From<io::Error> for Stop {
+    ghost from_gives = { λ error end. end ≡ stop.System error };
+
+    fn from(error: io::Error) -> Stop {
+        Stop::System(error)
+    }
+}
+
+impl From<AllocError> for Stop {
+    ghost from_gives = { λ _ end. (error : _) × (end ≡ stop.System error) };
+
+    fn from(error: AllocError) -> Stop {
+        Stop::System(error.into())
+    }
+}
+
+// Ends a program: prints the fault or the refusal that stopped it, and hands an error of the system on.
+pub fn finish(rt: &impl Print, outcome: Result<(), Stop>) -> io::Result<()>
+    ensures done { outcome ≡ Ok tt → result ≡ Ok tt }
+    ensures system { (error : _) → outcome ≡ Err (stop.System error) → result ≡ Err error }
+{
+    match outcome {
+        Ok(()) => Ok(()),
+        Err(Stop::Fault(fault)) => println!(rt; "{fault}"),
+        Err(Stop::Refused(refusal)) => println!(rt; "refused\t{}", refusal.number()),
+        Err(Stop::System(error)) => Err(error),
+    }
+}
