@@ -1,4 +1,7 @@
 // Where and why a sheet was sent back.
+ghost use Rattle.std.specs.Prelude.{◌≡◌, Some};
+ghost use Rattle.sheets.specs.Words.{name_of};
+
 use crate::Place;
 use board::Refusal;
 use std::fmt;
@@ -12,7 +15,9 @@ pub enum Layer {
 }
 
 impl Layer {
-    pub fn name(self) -> &'static str {
+    pub fn name(self) -> &'static str
+        ensures { result.now ≡ name_of self }
+    {
         match self {
             Layer::Plate => "plate",
             Layer::Figure => "figure",
@@ -22,6 +27,8 @@ impl Layer {
 }
 
 impl fmt::Display for Layer {
+    ghost output = { λ layer. Some (name_of layer) };
+
     fn fmt<W: fmt::Write>(&self, f: &mut fmt::Formatter<W>) -> fmt::Result {
         f.write_str(self.name())
     }

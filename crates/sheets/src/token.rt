@@ -1,4 +1,7 @@
 // Tokens: the fields of a line.
+ghost use Rattle.std.specs.Prelude.{◌≡◌, ◌<◌, ◌≤◌, length, slice_index, EachIndex, IfSome};
+ghost use Rattle.sheets.specs.Words.{ReadsWord, number_of};
+
 use crate::Fault;
 use board::Refusal;
 
@@ -39,6 +42,8 @@ impl Keyword {
 impl TryFrom<&[u8]> for Keyword {
     type Error = Refusal;
 
+    ghost try_from_gives = { λ word result. ReadsWord word.now result };
+
     fn try_from(word: &[u8]) -> Result<Keyword, Refusal> {
         match word {
             b"plate" => Ok(Keyword::Plate),
@@ -51,7 +56,11 @@ impl TryFrom<&[u8]> for Keyword {
 }
 
 // The number that decimal digits stand for: no 0 before a digit, and at most 65,535.
-fn number(digits: &[u8]) -> Option<u16> {
+fn number(digits: &[u8]) -> Option<u16>
+    ensures value { IfSome result (λ value. value ≡ number_of digits.now) }
+    ensures alone { IfSome result (λ _. (0 < length digits.now) × (slice_index digits.now 0 ≡ 48 → length digits.now ≡ 1)) }
+    ensures digits { IfSome result (λ _. EachIndex digits.now (λ i. (48 ≤ slice_index digits.now i) × (slice_index digits.now i ≤ 57))) }
+{
     if matches!(digits, [] | [b'0', _, ..]) {
         return None;
     }

@@ -30,11 +30,12 @@ pub fn measure_both(draft: &mut Draft, cells: &[Cell], groups: &[u8]) -> Result<
     let mut measure = |group: u16, map: &mut [MapRecord<u64>]| {
         draft.measure(&ruler, cells, groups, group, map, &mut entries)
     };
-    let counts = (measure(1, &mut first)?, measure(2, &mut second)?);
+    let one = measure(1, &mut first)?;
+    let two = measure(2, &mut second)?;
     let gap = draft.gap(&ruler, &first, &second)?;
     Ok(Outcome {
-        first: counts.0,
-        second: counts.1,
+        first: one,
+        second: two,
         gap: gap.map(|length| length.units),
     })
 }

@@ -1,0 +1,30 @@
+-- The words of lines and of layers, and the numbers that figures stand for.
+use Rattle.std.specs.Prelude.{◌≡◌, ◌≢◌, ◌+◌, ◌-◌, ◌*◌, ℕ, List, Result, fold, MatchResult}
+use lib.Chars.{codes}
+use Rattle.board.specs.declared.refusal.Refusal.{Refusal}
+use Rattle.board.specs.declared.refusal.Refusal.TheVariants.{Line}
+use Rattle.sheets.specs.declared.fault.Layer.{Layer}
+use Rattle.sheets.specs.declared.fault.Layer.TheVariants as layer
+use Rattle.sheets.specs.declared.token.Keyword.{Keyword}
+use Rattle.sheets.specs.declared.token.Keyword.TheVariants.{Plate, Cell, Bar, Enrol}
+
+-- the word that a line begins with
+abbrev pub word_of : Keyword → List ℕ
+word_of Plate = codes "plate"
+word_of Cell = codes "cell"
+word_of Bar = codes "bar"
+word_of Enrol = codes "enrol"
+
+-- a keyword is read from its own word, and any other word is a fault of its line
+abbrev pub ReadsWord : List ℕ → Result Keyword Refusal → Type 0
+ReadsWord word result = MatchResult result (λ keyword. word ≡ word_of keyword) (λ refusal. (refusal ≡ Line) × ((keyword : Keyword) → word ≢ word_of keyword))
+
+-- how a layer is printed
+abbrev pub name_of : Layer → List ℕ
+name_of layer.Plate = codes "plate"
+name_of layer.Figure = codes "figure"
+name_of layer.Sheet = codes "sheet"
+
+-- the number that decimal digits stand for
+abbrev pub number_of : List ℕ → ℕ
+number_of digits = fold (λ value digit. value * 10 + (digit - 48)) 0 digits
