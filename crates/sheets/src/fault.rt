@@ -65,9 +65,7 @@ impl Fault {
 impl fmt::Display for Fault {
     fn fmt<W: fmt::Write>(&self, f: &mut fmt::Formatter<W>) -> fmt::Result {
         let layer = self.layer();
-        let line = self.line;
-        let field = self.field;
         let number = self.refusal.number();
-        write!(f, "fault\t{layer}\t{line}\t{field}\t{number}")
+        write!(f, "fault\t{layer}\t{}\t{}\t{number}", self.line, self.field)
     }
 }

@@ -1,9 +1,16 @@
-// Reading one line of a sheet, field by field.
-ghost use Rattle.std.specs.Prelude.{◌≡◌, ◌+◌, ◌<◌};
+// One line of a sheet, read field by field.
+ghost use Rattle.std.specs.Prelude.{◌≡◌, ◌+◌, ◌<◌, length, IfSome};
 
-use crate::lines::split_once;
 use crate::{Edit, Fault, Keyword, Place, Token};
 use board::Refusal;
+
+// What stands before and behind the first place of a byte.
+pub(crate) fn split_once(bytes: &[u8], byte: u8) -> Option<(&[u8], &[u8])>
+    ensures { IfSome result (λ parts. length parts.0.now + 1 + length parts.1.now ≡ length bytes.now) }
+{
+    let at = bytes.iter().position(|b| *b == byte)?;
+    Some((&bytes[..at], &bytes[at + 1..]))
+}
 
 // A line without its end: what is left of it, and where the field stands that was read last.
 #[derive(Drop)]

@@ -1,20 +1,12 @@
 // Reading a sheet line by line.
-ghost use Rattle.std.specs.Prelude.{◌≡◌, ◌+◌, ◌<◌, true, length, is_some, IfOk, IfSome, OnOk, OnErr};
+ghost use Rattle.std.specs.Prelude.{◌≡◌, ◌<◌, true, is_some, IfOk, OnOk, OnErr};
 
-use crate::line::Line;
+use crate::line::{Line, split_once};
 use crate::{Edit, Fault, SheetReader};
 use board::Refusal;
 
 // The longest sheet, in bytes.
 pub const LONGEST: usize = 32768;
-
-// What stands before and behind the first place of a byte.
-pub(crate) fn split_once(bytes: &[u8], byte: u8) -> Option<(&[u8], &[u8])>
-    ensures { IfSome result (λ parts. length parts.0.now + 1 + length parts.1.now ≡ length bytes.now) }
-{
-    let at = bytes.iter().position(|b| *b == byte)?;
-    Some((&bytes[..at], &bytes[at + 1..]))
-}
 
 impl<'a> SheetReader<'a> {
     // A reader at the start of a sheet.

@@ -27,7 +27,8 @@ fn print_edit(rt: &impl Print, edit: Edit) -> io::Result<()> {
     }
 }
 
-// Carries out the sheet's lines.
+// Carries out the sheet's lines, as `read_sheet` does, and prints each: one loop for both would take two closures and
+// an error type over theirs.
 fn enter_board(
     rt: &impl Print,
     sheet: &[u8],
