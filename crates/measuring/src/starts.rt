@@ -12,18 +12,6 @@ use gauges::Gauge;
 use lengths::Length;
 use queue::{Offer, OfferQueue};
 
-// The pad of a source of the group, or 0 where the cell is none: a source is an open cell whose pad is in the group.
-fn source_pad(cell: Cell, groups: &[u8], group: u8) -> u8
-    ensures { result ≡ source_pad cell groups.now group }
-{
-    let pad = known_pad(cell.pad);
-    if cell.barred || group_of(groups, pad) != group {
-        0
-    } else {
-        pad
-    }
-}
-
 // Starts one record: a source, whose pad is not 0, links to itself and has the offer zero; another cell has no offer.
 fn start_cell<'q, K: Length>(
     number: usize,
@@ -50,6 +38,19 @@ fn start_cell<'q, K: Length>(
 }
 
 impl<'a, G: Gauge> Measurement<'a, G> {
+    // The pad of a source of the group, or 0, the tables' word for no pad, where the cell is none: a source is an open cell
+    // whose pad is in the group.
+    fn source_pad(&self, cell: Cell) -> u8
+        ensures { result ≡ source_pad cell self.now.groups.now self.now.group }
+    {
+        let pad = known_pad(cell.pad);
+        if cell.barred || group_of(self.groups, pad) != self.group {
+            0
+        } else {
+            pad
+        }
+    }
+
     // Starts the map.
     pub(crate) fn start<'q>(
         &self,
@@ -63,7 +64,7 @@ impl<'a, G: Gauge> Measurement<'a, G> {
         ensures tracks { Tracks G.Length.kind G.Length.rows (area self.now.size) (starting G.Length.kind self.now.cells.now self.now.groups.now self.now.group) map.new (queued queue.new) }
     {
         for (number, cell) in self.cells[0..self.size.area()].iter().enumerate() {
-            let pad = source_pad(*cell, self.groups, self.group);
+            let pad = self.source_pad(*cell);
             start_cell::<G::Length>(number, pad, map, queue);
         }
     }
