@@ -20,12 +20,7 @@ impl Draft {
         if cells.len() < size.area() || groups.len() < 64 {
             return Err(Refusal::Tables);
         }
-        let bare = Cell {
-            height: 0,
-            pad: 0,
-            barred: false,
-        };
-        fill_front(cells, size.area(), bare);
+        fill_front(cells, size.area(), Cell::BARE);
         fill_front(groups, 64, 0);
         Ok(Draft {
             header: Header {
@@ -44,10 +39,7 @@ impl Draft {
         if cells.len() < size.area() {
             return Err(Refusal::Tables);
         }
-        match size.cell(row, column) {
-            Some(at) => Ok(at),
-            None => Err(Refusal::Off),
-        }
+        size.cell(row, column).ok_or(Refusal::Off)
     }
 
     fn outdate(&mut self)
@@ -86,11 +78,7 @@ impl Draft {
         ensures { Edits (bar_refusal self.old cells.old row column) self.old self.new cells.old (cell_put self.old cells.old row column barred_cell) cells.new result }
     {
         let at = self.cell_index(cells, row, column)?;
-        cells[at] = Cell {
-            height: 0,
-            pad: 0,
-            barred: true,
-        };
+        cells[at] = Cell::BARRED;
         self.outdate();
         Ok(())
     }

@@ -3,15 +3,16 @@ ghost use Rattle.std.specs.Prelude.{◌≡◌};
 
 use board::Size;
 
-// The plate's size, and for each group whether its map was measured after the last accepted edit.
-#[derive(Clone, Copy)]
+// The plate's size, and for each group whether its map was measured after the last accepted edit. It is never copied, so
+// that no second header can call an old map current.
+#[derive(Drop)]
 pub struct Header {
     pub(crate) size: Size,
     pub(crate) first: bool,
     pub(crate) second: bool,
 }
 
-// A plate that can be edited. It moves and is never copied, so that no second header can call an old map current.
+// A plate that can be edited. It moves and is never copied.
 #[derive(Drop)]
 pub struct Draft {
     pub(crate) header: Header,

@@ -5,5 +5,8 @@ pub mod edits;
 pub mod header;
 pub mod maps;
 mod readings;
+mod routes;
+mod ways;
 
 pub use header::{Draft, Header};
+pub use readings::Readings;

@@ -7,28 +7,17 @@
 mod tests {
     use board::{Cell, MapRecord, Refusal};
     use gauges::{Chessboard, CountedChessboard, Euclid, Ruler, ThreeFour, WholeRuler};
-    use lengths::{CountedRow, Whole};
+    use lengths::{CountedRow, Length, Whole};
     use measuring::RowOf;
-    use plate::Draft;
+    use plate::{Draft, Readings};
     use queue::Offer;
+    use std::fmt::Debug;
     use std::process::Abort;
     use std::test::Fail;
 
     const BY_CHESSBOARD: WholeRuler<Chessboard> = WholeRuler(Chessboard);
 
     const STRIP: (u16, u16) = (1, 3);
-
-    const BARE: Cell = Cell {
-        height: 0,
-        pad: 0,
-        barred: false,
-    };
-
-    const BARRED: Cell = Cell {
-        height: 0,
-        pad: 0,
-        barred: true,
-    };
 
     // What stands in a map before measuring, and beyond the board after it: a reached cell linked to itself.
     const OLD: MapRecord<u64> = MapRecord {
@@ -39,24 +28,28 @@ mod tests {
         rank: 7,
     };
 
+    // What stands in a map of counted lengths before measuring.
+    const OLD_COUNTED: MapRecord<CountedRow> = MapRecord {
+        length: CountedRow { units: 0, steps: 0 },
+        reached: false,
+        pad: 0,
+        link: 0,
+        rank: 0,
+    };
+
     // What stands in a list before a way is written.
     const BLANK: u16 = 99;
 
     // A cell of height 0 with a pad.
     fn pad(pad: u8) -> Cell {
-        Cell {
-            height: 0,
-            pad,
-            barred: false,
-        }
+        Cell { pad, ..Cell::BARE }
     }
 
     // A bare cell with a height.
     fn height(height: u16) -> Cell {
         Cell {
             height,
-            pad: 0,
-            barred: false,
+            ..Cell::BARE
         }
     }
 
@@ -70,7 +63,7 @@ mod tests {
 
     // Opens a plate over spare tables, since opening clears them.
     fn open(size: (u16, u16)) -> Result<Draft, Refusal> {
-        Draft::open(size.0, size.1, &mut [BARE; 9], &mut [0; 64])
+        Draft::open(size.0, size.1, &mut [Cell::BARE; 9], &mut [0; 64])
     }
 
     // Measures a group by chessboard.
@@ -86,6 +79,37 @@ mod tests {
         Ok(map)
     }
 
+    // A board of up to 9 cells, with pad 1 in group 1 and pad 2 in group 2.
+    #[derive(Clone, Copy)]
+    struct Board<'a> {
+        size: (u16, u16),
+        cells: &'a [Cell],
+    }
+
+    // What the gap and the route of a board have to be; the gap stands as its row.
+    #[derive(Clone, Copy)]
+    struct Route<'a, Row> {
+        gap: Option<Row>,
+        count: usize,
+        marks: &'a [u8],
+    }
+
+    // Measures a group of a board by a ruler.
+    fn measure_by<R: Ruler>(
+        draft: &mut Draft,
+        ruler: &R,
+        cells: &[Cell],
+        group: u16,
+        map: &mut [MapRecord<RowOf<R>>],
+    ) -> Result<(), Refusal> {
+        let mut entries = [Offer {
+            length: R::Length::zero().encode(),
+            cell: 0,
+        }; 90];
+        draft.measure(ruler, cells, &pad_groups(1, 2), group, map, &mut entries)?;
+        Ok(())
+    }
+
     // Checks what route answers and writes over marks that all held `old`, and that the marks beyond the board stay.
     fn check_marks<R: Ruler>(
         rt: &impl Abort,
@@ -94,80 +118,44 @@ mod tests {
         ruler: &R,
         maps: (&[MapRecord<RowOf<R>>], &[MapRecord<RowOf<R>>]),
         old: u8,
-        count: usize,
-        expected: &[u8],
+        route: Route<'_, RowOf<R>>,
     ) {
         let mut marks = [old; 10];
         assert_eq!(rt;
             draft.route(ruler, maps.0, maps.1, &mut marks),
-            Ok(count),
+            Ok(route.count),
             "{what}"
         );
         for (number, mark) in marks.iter().enumerate() {
             assert_eq!(rt;
                 *mark,
-                expected.get(number).copied().unwrap_or(old),
+                route.marks.get(number).copied().unwrap_or(old),
                 "{what}"
             );
         }
     }
 
-    // Checks the gap and the route of a board with pad 1 in group 1 and pad 2 in group 2, by a ruler of whole lengths.
-    fn check_route<R: Ruler<Length = Whole>>(
+    // Checks the gap and the route of a board by a ruler, in maps that held `old` before measuring.
+    fn check_route<R: Ruler>(
         rt: &impl Abort,
         what: &str,
         ruler: &R,
-        size: (u16, u16),
-        cells: &[Cell],
-        gap: Option<u64>,
-        count: usize,
-        marks: &[u8],
-    ) -> Result<(), Fail> {
-        let mut draft = open(size)?;
-        let groups = pad_groups(1, 2);
-        let mut first = [OLD; 10];
-        let mut second = [OLD; 10];
-        let mut entries = [Offer { length: 0, cell: 0 }; 90];
-        draft.measure(ruler, cells, &groups, 1, &mut first, &mut entries)?;
-        draft.measure(ruler, cells, &groups, 2, &mut second, &mut entries)?;
-        let found = match draft.gap(ruler, &first, &second)? {
-            Some(length) => Some(length.units),
-            None => None,
-        };
-        assert_eq!(rt; found, gap, "{what}");
-        check_marks(rt, what, &draft, ruler, (&first, &second), 1, count, marks);
-        check_marks(rt, what, &draft, ruler, (&first, &second), 7, count, marks);
-        Ok(())
-    }
-
-    // The same by counted chessboard, where there is a gap.
-    fn check_counted(
-        rt: &impl Abort,
-        what: &str,
-        size: (u16, u16),
-        cells: &[Cell],
-        gap: (u64, u64),
-        count: usize,
-        marks: &[u8],
-    ) -> Result<(), Fail> {
-        let mut draft = open(size)?;
-        let groups = pad_groups(1, 2);
-        let zero = CountedRow { units: 0, steps: 0 };
-        let mut first = [MapRecord::unreached(zero); 10];
-        let mut second = [MapRecord::unreached(zero); 10];
-        let mut entries = [Offer {
-            length: zero,
-            cell: 0,
-        }; 90];
-        let ruler = CountedChessboard;
-        draft.measure(&ruler, cells, &groups, 1, &mut first, &mut entries)?;
-        draft.measure(&ruler, cells, &groups, 2, &mut second, &mut entries)?;
-        let Some(found) = draft.gap(&ruler, &first, &second)? else {
-            return Err(Fail::new("no gap"));
-        };
-        assert_eq!(rt; found.units, gap.0, "{what}");
-        assert_eq!(rt; found.steps, gap.1, "{what}");
-        check_marks(rt, what, &draft, &ruler, (&first, &second), 7, count, marks);
+        board: Board<'_>,
+        old: MapRecord<RowOf<R>>,
+        route: Route<'_, RowOf<R>>,
+    ) -> Result<(), Fail>
+    where
+        RowOf<R>: PartialEq + Debug,
+    {
+        let mut draft = open(board.size)?;
+        let mut first = [old; 10];
+        let mut second = [old; 10];
+        measure_by(&mut draft, ruler, board.cells, 1, &mut first)?;
+        measure_by(&mut draft, ruler, board.cells, 2, &mut second)?;
+        let gap = draft.gap(ruler, &first, &second)?;
+        assert_eq!(rt; gap.map(|gap| gap.encode()), route.gap, "{what}");
+        check_marks(rt, what, &draft, ruler, (&first, &second), 1, route);
+        check_marks(rt, what, &draft, ruler, (&first, &second), 7, route);
         Ok(())
     }
 
@@ -178,84 +166,85 @@ mod tests {
         column: u16,
         group: u16,
     ) -> Result<Option<u64>, Refusal> {
-        match draft.distance::<Whole>(map, 0, column, group)? {
-            Some(length) => Ok(Some(length.units)),
-            None => Ok(None),
-        }
+        let length = draft.distance::<Whole>(map, 0, column, group)?;
+        Ok(length.map(|length| length.units))
     }
 
-    // Checks the way from a cell of row 0 in group 1's map: its answer, its cells, and that the list behind them stays.
-    fn check_way(
-        rt: &impl Abort,
-        what: &str,
-        draft: &Draft,
-        map: &[MapRecord<u64>],
-        column: u16,
-        list: &mut [u16],
-        answer: Result<usize, Refusal>,
-        cells: &[u16],
-    ) {
-        assert_eq!(rt;
-            draft.way::<Whole>(map, 0, column, 1, list),
-            answer,
-            "{what}"
-        );
-        for (number, cell) in list.iter().enumerate() {
-            assert_eq!(rt;
-                *cell,
-                cells.get(number).copied().unwrap_or(BLANK),
+    // The readings of one map's cells of row 0, under what is said of them.
+    #[derive(Drop)]
+    struct Row<'a, A> {
+        rt: &'a A,
+        what: &'a str,
+        draft: &'a Draft,
+        map: &'a [MapRecord<u64>],
+    }
+
+    impl<'a, A: Abort> Row<'a, A> {
+        fn new(
+            rt: &'a A,
+            what: &'a str,
+            draft: &'a Draft,
+            map: &'a [MapRecord<u64>],
+        ) -> Row<'a, A> {
+            Row {
+                rt,
+                what,
+                draft,
+                map,
+            }
+        }
+
+        // Checks the way in group 1's map: its answer, its cells, and that the list behind them stays.
+        fn check_way(
+            &self,
+            column: u16,
+            list: &mut [u16],
+            answer: Result<usize, Refusal>,
+            cells: &[u16],
+        ) {
+            let what = self.what;
+            assert_eq!(self.rt;
+                self.draft.way::<Whole>(self.map, 0, column, 1, list),
+                answer,
                 "{what}"
             );
+            for (number, cell) in list.iter().enumerate() {
+                assert_eq!(self.rt;
+                    *cell,
+                    cells.get(number).copied().unwrap_or(BLANK),
+                    "{what}"
+                );
+            }
         }
-    }
 
-    // Checks that the way from a cell is torn, on a list that is long enough and on one that is too short.
-    fn check_torn(rt: &impl Abort, what: &str, draft: &Draft, map: &[MapRecord<u64>], column: u16) {
-        check_way(
-            rt,
-            what,
-            draft,
-            map,
-            column,
-            &mut [BLANK; 4],
-            Err(Refusal::Torn),
-            &[],
-        );
-        check_way(
-            rt,
-            what,
-            draft,
-            map,
-            column,
-            &mut [],
-            Err(Refusal::Torn),
-            &[],
-        );
-    }
+        // Checks that the way is torn, on a list that is long enough and on one that is too short.
+        fn check_torn(&self, column: u16) {
+            self.check_way(column, &mut [BLANK; 4], Err(Refusal::Torn), &[]);
+            self.check_way(column, &mut [], Err(Refusal::Torn), &[]);
+        }
 
-    // Checks that the readings of a cell of row 0 are all sent back.
-    fn check_refused(
-        rt: &impl Abort,
-        what: &str,
-        draft: &Draft,
-        map: &[MapRecord<u64>],
-        column: u16,
-        group: u16,
-        refusal: Refusal,
-    ) {
-        assert_eq!(rt; distance(draft, map, column, group), Err(refusal), "{what}");
-        assert_eq!(rt;
-            draft.nearest::<Whole>(map, 0, column, group),
-            Err(refusal),
-            "{what}"
-        );
-        let mut list = [BLANK; 1];
-        assert_eq!(rt;
-            draft.way::<Whole>(map, 0, column, group, &mut list),
-            Err(refusal),
-            "{what}"
-        );
-        assert_eq!(rt; list[0], BLANK, "{what}");
+        // Checks that all readings are sent back.
+        fn check_refused(&self, column: u16, group: u16, refusal: Refusal) {
+            let what = self.what;
+            assert_eq!(self.rt;
+                distance(self.draft, self.map, column, group),
+                Err(refusal),
+                "{what}"
+            );
+            assert_eq!(self.rt;
+                self.draft.nearest::<Whole>(self.map, 0, column, group),
+                Err(refusal),
+                "{what}"
+            );
+            let mut list = [BLANK; 1];
+            assert_eq!(self.rt;
+                self.draft
+                    .way::<Whole>(self.map, 0, column, group, &mut list),
+                Err(refusal),
+                "{what}"
+            );
+            assert_eq!(self.rt; list, [BLANK; 1], "{what}");
+        }
     }
 
     // Checks that gap and route are sent back, and that no mark is written.
@@ -266,141 +255,131 @@ mod tests {
         first: &[MapRecord<u64>],
         second: &[MapRecord<u64>],
         refusal: Refusal,
-    ) -> Result<(), Fail> {
-        match draft.gap(&BY_CHESSBOARD, first, second) {
-            Ok(_) => return Err(Fail::new("a gap was answered")),
-            Err(found) => assert_eq!(rt; found, refusal, "{what}"),
-        }
+    ) {
+        let gap = draft.gap(&BY_CHESSBOARD, first, second);
+        assert_eq!(rt; gap.map(|gap| gap.is_some()), Err(refusal), "{what}");
         let mut marks = [7; 3];
         assert_eq!(rt;
             draft.route(&BY_CHESSBOARD, first, second, &mut marks),
             Err(refusal),
             "{what}"
         );
-        assert!(rt; marks[0] == 7 && marks[1] == 7 && marks[2] == 7, "{what}");
-        Ok(())
+        assert_eq!(rt; marks, [7; 3], "{what}");
     }
 
     #[test]
     fn routes_lead_round(rt: HostRuntime) -> Result<(), Fail> {
-        let hill = [pad(1), height(9), pad(2), BARE, BARE, BARE];
-        let marks = [1, 0, 1, 0, 1, 0];
-        check_route(
-            &rt,
-            "routes lead round",
-            &BY_CHESSBOARD,
-            (2, 3),
-            &hill,
-            Some(2),
-            3,
-            &marks,
-        )?;
-        let mut ring = [BARE; 9];
-        ring[0] = pad(1);
-        ring[1] = height(1);
-        ring[2] = pad(2);
-        ring[4] = BARRED;
-        let both = [1, 1, 1, 1, 0, 1, 0, 1, 0];
-        check_route(
-            &rt,
-            "routes lead round",
-            &BY_CHESSBOARD,
-            (3, 3),
-            &ring,
-            Some(4),
-            6,
-            &both,
-        )?;
-        let row = [1, 1, 1, 0, 0, 0, 0, 0, 0];
-        check_counted(
-            &rt,
-            "the way of fewer steps",
-            (3, 3),
-            &ring,
-            (4, 2),
-            3,
-            &row,
-        )
+        let what = "routes lead round";
+        let cells = [
+            pad(1),
+            height(9),
+            pad(2),
+            Cell::BARE,
+            Cell::BARE,
+            Cell::BARE,
+        ];
+        let hill = Board {
+            size: (2, 3),
+            cells: &cells,
+        };
+        let round = Route {
+            gap: Some(2),
+            count: 3,
+            marks: &[1, 0, 1, 0, 1, 0],
+        };
+        check_route(&rt, what, &BY_CHESSBOARD, hill, OLD, round)?;
+        let mut cells = [Cell::BARE; 9];
+        cells[0] = pad(1);
+        cells[1] = height(1);
+        cells[2] = pad(2);
+        cells[4] = Cell::BARRED;
+        let ring = Board {
+            size: (3, 3),
+            cells: &cells,
+        };
+        let both = Route {
+            gap: Some(4),
+            count: 6,
+            marks: &[1, 1, 1, 1, 0, 1, 0, 1, 0],
+        };
+        check_route(&rt, what, &BY_CHESSBOARD, ring, OLD, both)?;
+        let row = Route {
+            gap: Some(CountedRow { units: 4, steps: 2 }),
+            count: 3,
+            marks: &[1, 1, 1, 0, 0, 0, 0, 0, 0],
+        };
+        let what = "the way of fewer steps";
+        check_route(&rt, what, &CountedChessboard, ring, OLD_COUNTED, row)
     }
 
     #[test]
     fn hills_are_crossed(rt: HostRuntime) -> Result<(), Fail> {
-        let hill = [pad(1), height(5), pad(2)];
-        let marks = [1, 1, 1];
-        check_route(
-            &rt,
-            "hills are crossed",
-            &BY_CHESSBOARD,
-            STRIP,
-            &hill,
-            Some(12),
-            3,
-            &marks,
-        )?;
+        let what = "hills are crossed";
+        let cells = [pad(1), height(5), pad(2)];
+        let hill = Board {
+            size: STRIP,
+            cells: &cells,
+        };
+        let across = Route {
+            gap: Some(12),
+            count: 3,
+            marks: &[1, 1, 1],
+        };
+        check_route(&rt, what, &BY_CHESSBOARD, hill, OLD, across)?;
         let three_four = WholeRuler(ThreeFour::new(1)?);
+        let by_three_four = Route {
+            gap: Some(16),
+            ..across
+        };
+        check_route(&rt, "three-four", &three_four, hill, OLD, by_three_four)?;
+        let by_euclid = Route {
+            gap: Some(2610),
+            ..across
+        };
+        check_route(&rt, "Euclid", &WholeRuler(Euclid), hill, OLD, by_euclid)?;
+        let counted = Route {
+            gap: Some(CountedRow {
+                units: 12,
+                steps: 2,
+            }),
+            count: 3,
+            marks: &[1, 1, 1],
+        };
         check_route(
             &rt,
-            "three-four",
-            &three_four,
-            STRIP,
-            &hill,
-            Some(16),
-            3,
-            &marks,
+            "counted",
+            &CountedChessboard,
+            hill,
+            OLD_COUNTED,
+            counted,
         )?;
-        check_route(
-            &rt,
-            "Euclid",
-            &WholeRuler(Euclid),
-            STRIP,
-            &hill,
-            Some(2610),
-            3,
-            &marks,
-        )?;
-        check_counted(&rt, "counted", STRIP, &hill, (12, 2), 3, &marks)?;
         let mut draft = open(STRIP)?;
-        let map = measure(&mut draft, &hill, &pad_groups(1, 2), 1)?;
-        check_way(
-            &rt,
-            "hills are crossed",
-            &draft,
-            &map,
-            2,
-            &mut [BLANK; 5],
-            Ok(3),
-            &[2, 1, 0],
-        );
+        let map = measure(&mut draft, &cells, &pad_groups(1, 2), 1)?;
+        let row = Row::new(&rt, what, &draft, &map);
+        row.check_way(2, &mut [BLANK; 5], Ok(3), &[2, 1, 0]);
         assert_eq!(rt; distance(&draft, &map, 2, 1), Ok(Some(12)));
         Ok(())
     }
 
     #[test]
     fn walls_part(rt: HostRuntime) -> Result<(), Fail> {
-        let wall = [pad(1), BARRED, pad(2)];
-        check_route(
-            &rt,
-            "walls part",
-            &BY_CHESSBOARD,
-            STRIP,
-            &wall,
-            None,
-            0,
-            &[0, 0, 0],
-        )?;
+        let what = "walls part";
+        let cells = [pad(1), Cell::BARRED, pad(2)];
+        let wall = Board {
+            size: STRIP,
+            cells: &cells,
+        };
+        let none = Route {
+            gap: None,
+            count: 0,
+            marks: &[0, 0, 0],
+        };
+        check_route(&rt, what, &BY_CHESSBOARD, wall, OLD, none)?;
         let mut draft = open(STRIP)?;
-        let map = measure(&mut draft, &wall, &pad_groups(1, 2), 1)?;
-        check_way(
-            &rt,
-            "walls part",
-            &draft,
-            &map,
-            2,
-            &mut [BLANK; 4],
-            Ok(0),
-            &[],
-        );
-        check_way(&rt, "walls part", &draft, &map, 2, &mut [], Ok(0), &[]);
+        let map = measure(&mut draft, &cells, &pad_groups(1, 2), 1)?;
+        let row = Row::new(&rt, what, &draft, &map);
+        row.check_way(2, &mut [BLANK; 4], Ok(0), &[]);
+        row.check_way(2, &mut [], Ok(0), &[]);
         assert_eq!(rt; draft.nearest::<Whole>(&map, 0, 2, 1), Ok(None));
         assert_eq!(rt; distance(&draft, &map, 2, 1), Ok(None));
         Ok(())
@@ -410,40 +389,15 @@ mod tests {
     #[test]
     fn ways_need_their_lists(rt: HostRuntime) -> Result<(), Fail> {
         let mut draft = open(STRIP)?;
-        let cells = [pad(1), BARE, pad(2)];
+        let cells = [pad(1), Cell::BARE, pad(2)];
         let map = measure(&mut draft, &cells, &pad_groups(1, 1), 1)?;
         assert_eq!(rt; draft.nearest::<Whole>(&map, 0, 1, 1), Ok(Some(1)));
         assert_eq!(rt; distance(&draft, &map, 1, 1), Ok(Some(1)));
-        check_way(
-            &rt,
-            "ways need their lists",
-            &draft,
-            &map,
-            1,
-            &mut [BLANK; 2],
-            Ok(2),
-            &[1, 0],
-        );
-        check_way(
-            &rt,
-            "ways need their lists",
-            &draft,
-            &map,
-            1,
-            &mut [BLANK; 1],
-            Err(Refusal::Short),
-            &[],
-        );
-        check_way(
-            &rt,
-            "a source",
-            &draft,
-            &map,
-            2,
-            &mut [BLANK; 1],
-            Ok(1),
-            &[2],
-        );
+        let row = Row::new(&rt, "ways need their lists", &draft, &map);
+        row.check_way(1, &mut [BLANK; 2], Ok(2), &[1, 0]);
+        row.check_way(1, &mut [BLANK; 1], Err(Refusal::Short), &[]);
+        let source = Row::new(&rt, "a source", &draft, &map);
+        source.check_way(2, &mut [BLANK; 1], Ok(1), &[2]);
         Ok(())
     }
 
@@ -451,24 +405,20 @@ mod tests {
     #[test]
     fn tampered_maps_are_torn(rt: HostRuntime) -> Result<(), Fail> {
         let mut draft = open(STRIP)?;
-        let cells = [pad(1), BARE, BARE];
+        let cells = [pad(1), Cell::BARE, Cell::BARE];
         let measured = measure(&mut draft, &cells, &pad_groups(1, 2), 1)?;
         let mut map = measured;
         map[1].link = 3;
-        check_torn(&rt, "a link off the plate", &draft, &map, 2);
+        Row::new(&rt, "a link off the plate", &draft, &map).check_torn(2);
         map[1].link = 65535;
-        check_torn(&rt, "a link off the map", &draft, &map, 1);
+        Row::new(&rt, "a link off the map", &draft, &map).check_torn(1);
         map = measured;
         map[0].link = 2;
-        check_torn(&rt, "a ring of links", &draft, &map, 1);
+        Row::new(&rt, "a ring of links", &draft, &map).check_torn(1);
         map = measured;
         map[0].reached = false;
-        check_torn(&rt, "a link to an unreached cell", &draft, &map, 2);
-        check_way(
-            &rt,
-            "tampered maps are torn",
-            &draft,
-            &map,
+        Row::new(&rt, "a link to an unreached cell", &draft, &map).check_torn(2);
+        Row::new(&rt, "tampered maps are torn", &draft, &map).check_way(
             0,
             &mut [BLANK; 4],
             Ok(0),
@@ -484,31 +434,16 @@ mod tests {
 
     #[test]
     fn readings_are_sent_back(rt: HostRuntime) -> Result<(), Fail> {
-        let mut cells = [BARE; 3];
+        let what = "readings are sent back";
+        let mut cells = [Cell::BARE; 3];
         let mut groups = [0; 64];
         let mut draft = Draft::open(1, 3, &mut cells, &mut groups)?;
         draft.set(&mut cells, 0, 0, 0, 1)?;
         draft.enrol(&mut groups, 1, 1)?;
-        check_refused(
-            &rt,
-            "not yet measured",
-            &draft,
-            &[OLD; 3],
-            0,
-            1,
-            Refusal::Outdated,
-        );
+        Row::new(&rt, "not yet measured", &draft, &[OLD; 3]).check_refused(0, 1, Refusal::Outdated);
         let first = measure(&mut draft, &cells, &groups, 1)?;
         assert_eq!(rt; distance(&draft, &first[0..3], 2, 1), Ok(Some(2)));
-        check_refused(
-            &rt,
-            "the other group",
-            &draft,
-            &first,
-            0,
-            2,
-            Refusal::Outdated,
-        );
+        Row::new(&rt, "the other group", &draft, &first).check_refused(0, 2, Refusal::Outdated);
         check_apart(
             &rt,
             "one group alone",
@@ -516,60 +451,14 @@ mod tests {
             &first,
             &first,
             Refusal::Outdated,
-        )?;
-        check_refused(
-            &rt,
-            "readings are sent back",
-            &draft,
-            &first[0..2],
-            3,
-            0,
-            Refusal::Tables,
         );
-        check_refused(
-            &rt,
-            "readings are sent back",
-            &draft,
-            &first,
-            3,
-            0,
-            Refusal::Off,
-        );
-        check_refused(
-            &rt,
-            "readings are sent back",
-            &draft,
-            &first,
-            2,
-            0,
-            Refusal::Group,
-        );
-        check_refused(
-            &rt,
-            "readings are sent back",
-            &draft,
-            &first,
-            2,
-            3,
-            Refusal::Group,
-        );
+        Row::new(&rt, what, &draft, &first[0..2]).check_refused(3, 0, Refusal::Tables);
+        Row::new(&rt, what, &draft, &first).check_refused(3, 0, Refusal::Off);
+        Row::new(&rt, what, &draft, &first).check_refused(2, 0, Refusal::Group);
+        Row::new(&rt, what, &draft, &first).check_refused(2, 3, Refusal::Group);
         let second = measure(&mut draft, &cells, &groups, 2)?;
-        check_apart(
-            &rt,
-            "readings are sent back",
-            &draft,
-            &first[0..2],
-            &second,
-            Refusal::Tables,
-        )?;
-        check_apart(
-            &rt,
-            "readings are sent back",
-            &draft,
-            &first,
-            &second[0..2],
-            Refusal::Tables,
-        )?;
+        check_apart(&rt, what, &draft, &first[0..2], &second, Refusal::Tables);
+        check_apart(&rt, what, &draft, &first, &second[0..2], Refusal::Tables);
         let mut marks = [7; 2];
         assert_eq!(rt;
             draft.route(&BY_CHESSBOARD, &first, &second, &mut marks),
@@ -577,14 +466,8 @@ mod tests {
         );
         assert!(rt; marks[0] == 7 && marks[1] == 7);
         draft.bar(&mut cells, 0, 1)?;
-        check_refused(&rt, "an edit", &draft, &first, 2, 1, Refusal::Outdated);
-        check_apart(
-            &rt,
-            "readings are sent back",
-            &draft,
-            &first,
-            &second,
-            Refusal::Outdated,
-        )
+        Row::new(&rt, "an edit", &draft, &first).check_refused(2, 1, Refusal::Outdated);
+        check_apart(&rt, what, &draft, &first, &second, Refusal::Outdated);
+        Ok(())
     }
 }

@@ -2,7 +2,7 @@ use Rattle.std.proofs.Common.{◌<◌, [], ◌∷◌, ◌++◌, length, take, So
 use Rattle.std.proofs.lemmas.List.{append_assoc, append-nil, drop_all, get_or_default, length-set, take_all, take_more_set}
 use Rattle.board.specs.Records.{unreached_record}
 use Rattle.plate.proofs.Links.{Goes, goes_first, goes_within}
-use Rattle.plate.proofs.readings.write_way.Goals as goal
+use Rattle.plate.proofs.ways.write_way.Goals as goal
 
 pub loop-place-init : goal.loop-place-init
 loop-place-init g c = (c.requires.0, c.requires.1, omega (arith, c.requires.2), inr (length c.args.map.now, c.requires.1))

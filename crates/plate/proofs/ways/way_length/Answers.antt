@@ -2,7 +2,7 @@ use Rattle.std.proofs.Common.{◌≡◌, suc, ◌+◌, ◌-◌, [], ◌∷◌, �
 use Rattle.std.proofs.lemmas.List.{length_push}
 use Rattle.measuring.specs.Ways.{way_within}
 use Rattle.plate.proofs.Links.{following, following_none, following_then, way_ends, way_goes, way_unreached}
-use Rattle.plate.proofs.readings.way_length.Goals as goal
+use Rattle.plate.proofs.ways.way_length.Goals as goal
 
 pub loop-passed-init : goal.loop-passed-init
 loop-passed-init g c =

@@ -1,6 +1,6 @@
 use Rattle.std.proofs.Common.{refl, ◌∙◌, add-one}
 use Rattle.measuring.specs.Readings.{least, least_sum}
-use Rattle.plate.proofs.readings.least_sum.Goals as goal
+use Rattle.plate.proofs.routes.Maps.least_sum.Goals as goal
 
 pub loop-number-init : goal.loop-number-init
 unfolding least_sum

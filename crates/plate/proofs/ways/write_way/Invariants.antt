@@ -1,7 +1,7 @@
 use Rattle.std.proofs.Common.{◌≡◌, ℕ, ◌+◌, List, ◌++◌, length, take, Some}
 use Rattle.plate.specs.Walks.{way_on}
 use Rattle.plate.proofs.Links.{Goes}
-use Rattle.plate.proofs.readings.write_way.Given as goal
+use Rattle.plate.proofs.ways.write_way.Given as goal
 
 -- the way is the cells that were written, and then those that follow from this cell
 abbrev pub invariant-loop-place : goal.invariant-loop-place

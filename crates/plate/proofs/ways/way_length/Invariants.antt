@@ -2,7 +2,7 @@ use Rattle.std.proofs.Common.{◌≡◌, ℕ, ◌-◌, List, length}
 use Rattle.measuring.specs.Ways.{way_within}
 use Rattle.plate.specs.Walks.{way_on}
 use Rattle.plate.proofs.Links.{following}
-use Rattle.plate.proofs.readings.way_length.Given as goal
+use Rattle.plate.proofs.ways.way_length.Given as goal
 
 -- the way is the cells that were passed, and then the way from this cell
 abbrev pub invariant-loop-passed : goal.invariant-loop-passed
