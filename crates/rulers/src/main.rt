@@ -10,7 +10,7 @@ use gauges::{
 };
 use lengths::{Counted, Length, Whole};
 use measuring::RowOf;
-use plate::Draft;
+use plate::{Draft, Readings};
 use queue::Offer;
 use std::{fmt, io};
 

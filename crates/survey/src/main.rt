@@ -5,7 +5,7 @@
 use board::{Cell, MapRecord};
 use ending::{Stop, finish};
 use gauges::{Chessboard, WholeRuler};
-use plate::Draft;
+use plate::{Draft, Readings};
 use queue::Offer;
 use sheets::{Edit, SheetReader, open_plate};
 use std::io;

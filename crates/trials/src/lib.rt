@@ -4,7 +4,7 @@
 use board::{Cell, MapRecord, Refusal};
 use gauges::{Chessboard, WholeRuler};
 use measuring::Counts;
-use plate::Draft;
+use plate::{Draft, Readings};
 use queue::Offer;
 use sheets::{Fault, read_sheet};
 
