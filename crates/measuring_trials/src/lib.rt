@@ -457,9 +457,8 @@ mod tests {
             UNREACHED,
         ];
         let walled = Cell {
-            height: 0,
             pad: 1,
-            barred: true,
+            ..Cell::BARRED
         };
         let cells = [pad(65), pad(4), Cell::BARE, pad(1), walled, pad(1)];
         check_map(
