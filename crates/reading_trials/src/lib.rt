@@ -28,15 +28,6 @@ mod tests {
         rank: 7,
     };
 
-    // What stands in a map of counted lengths before measuring.
-    const OLD_COUNTED: MapRecord<CountedRow> = MapRecord {
-        length: CountedRow { units: 0, steps: 0 },
-        reached: false,
-        pad: 0,
-        link: 0,
-        rank: 0,
-    };
-
     // What stands in a list before a way is written.
     const BLANK: u16 = 99;
 
@@ -94,22 +85,6 @@ mod tests {
         marks: &'a [u8],
     }
 
-    // Measures a group of a board by a ruler.
-    fn measure_by<R: Ruler>(
-        draft: &mut Draft,
-        ruler: &R,
-        cells: &[Cell],
-        group: u16,
-        map: &mut [MapRecord<RowOf<R>>],
-    ) -> Result<(), Refusal> {
-        let mut entries = [Offer {
-            length: R::Length::zero().encode(),
-            cell: 0,
-        }; 90];
-        draft.measure(ruler, cells, &pad_groups(1, 2), group, map, &mut entries)?;
-        Ok(())
-    }
-
     // Checks what route answers and writes over marks that all held `old`, and that the marks beyond the board stay.
     fn check_marks<R: Ruler>(
         rt: &impl Abort,
@@ -118,7 +93,7 @@ mod tests {
         ruler: &R,
         maps: (&[MapRecord<RowOf<R>>], &[MapRecord<RowOf<R>>]),
         old: u8,
-        route: Route<'_, RowOf<R>>,
+        route: &Route<'_, RowOf<R>>,
     ) {
         let mut marks = [old; 10];
         assert_eq!(rt;
@@ -135,28 +110,75 @@ mod tests {
         }
     }
 
-    // Checks the gap and the route of a board by a ruler, in maps that held `old` before measuring.
+    // The tables that measuring writes.
+    #[derive(Drop)]
+    struct Tables<'a, Row> {
+        first: &'a mut [MapRecord<Row>],
+        second: &'a mut [MapRecord<Row>],
+        entries: &'a mut [Offer<Row>],
+    }
+
+    // Checks the gap and the route of a board by a ruler.
     fn check_route<R: Ruler>(
         rt: &impl Abort,
         what: &str,
         ruler: &R,
         board: Board<'_>,
-        old: MapRecord<RowOf<R>>,
-        route: Route<'_, RowOf<R>>,
+        tables: Tables<'_, RowOf<R>>,
+        route: &Route<'_, RowOf<R>>,
     ) -> Result<(), Fail>
     where
         RowOf<R>: PartialEq + Debug,
     {
+        let Tables {
+            first,
+            second,
+            entries,
+        } = tables;
         let mut draft = open(board.size)?;
-        let mut first = [old; 10];
-        let mut second = [old; 10];
-        measure_by(&mut draft, ruler, board.cells, 1, &mut first)?;
-        measure_by(&mut draft, ruler, board.cells, 2, &mut second)?;
-        let gap = draft.gap(ruler, &first, &second)?;
+        let groups = pad_groups(1, 2);
+        draft.measure(ruler, board.cells, &groups, 1, first, entries)?;
+        draft.measure(ruler, board.cells, &groups, 2, second, entries)?;
+        let gap = draft.gap(ruler, first, second)?;
         assert_eq!(rt; gap.map(|gap| gap.encode()), route.gap, "{what}");
-        check_marks(rt, what, &draft, ruler, (&first, &second), 1, route);
-        check_marks(rt, what, &draft, ruler, (&first, &second), 7, route);
+        check_marks(rt, what, &draft, ruler, (first, second), 1, route);
+        check_marks(rt, what, &draft, ruler, (first, second), 7, route);
         Ok(())
+    }
+
+    // The same in tables of whole lengths. An array of a row that is not known yet has no known size.
+    fn check_whole<R: Ruler<Length = Whole>>(
+        rt: &impl Abort,
+        what: &str,
+        ruler: &R,
+        board: Board<'_>,
+        route: Route<'_, u64>,
+    ) -> Result<(), Fail> {
+        let tables = Tables {
+            first: &mut [OLD; 10],
+            second: &mut [OLD; 10],
+            entries: &mut [Offer { length: 0, cell: 0 }; 90],
+        };
+        check_route(rt, what, ruler, board, tables, &route)
+    }
+
+    // The same by counted chessboard.
+    fn check_counted(
+        rt: &impl Abort,
+        what: &str,
+        board: Board<'_>,
+        route: Route<'_, CountedRow>,
+    ) -> Result<(), Fail> {
+        let zero = CountedRow { units: 0, steps: 0 };
+        let tables = Tables {
+            first: &mut [MapRecord::unreached(zero); 10],
+            second: &mut [MapRecord::unreached(zero); 10],
+            entries: &mut [Offer {
+                length: zero,
+                cell: 0,
+            }; 90],
+        };
+        check_route(rt, what, &CountedChessboard, board, tables, &route)
     }
 
     // A cell's distance in units.
@@ -287,7 +309,7 @@ mod tests {
             count: 3,
             marks: &[1, 0, 1, 0, 1, 0],
         };
-        check_route(&rt, what, &BY_CHESSBOARD, hill, OLD, round)?;
+        check_whole(&rt, what, &BY_CHESSBOARD, hill, round)?;
         let mut cells = [Cell::BARE; 9];
         cells[0] = pad(1);
         cells[1] = height(1);
@@ -302,14 +324,14 @@ mod tests {
             count: 6,
             marks: &[1, 1, 1, 1, 0, 1, 0, 1, 0],
         };
-        check_route(&rt, what, &BY_CHESSBOARD, ring, OLD, both)?;
+        check_whole(&rt, what, &BY_CHESSBOARD, ring, both)?;
         let row = Route {
             gap: Some(CountedRow { units: 4, steps: 2 }),
             count: 3,
             marks: &[1, 1, 1, 0, 0, 0, 0, 0, 0],
         };
         let what = "the way of fewer steps";
-        check_route(&rt, what, &CountedChessboard, ring, OLD_COUNTED, row)
+        check_counted(&rt, what, ring, row)
     }
 
     #[test]
@@ -325,18 +347,18 @@ mod tests {
             count: 3,
             marks: &[1, 1, 1],
         };
-        check_route(&rt, what, &BY_CHESSBOARD, hill, OLD, across)?;
+        check_whole(&rt, what, &BY_CHESSBOARD, hill, across)?;
         let three_four = WholeRuler(ThreeFour::new(1)?);
         let by_three_four = Route {
             gap: Some(16),
             ..across
         };
-        check_route(&rt, "three-four", &three_four, hill, OLD, by_three_four)?;
+        check_whole(&rt, "three-four", &three_four, hill, by_three_four)?;
         let by_euclid = Route {
             gap: Some(2610),
             ..across
         };
-        check_route(&rt, "Euclid", &WholeRuler(Euclid), hill, OLD, by_euclid)?;
+        check_whole(&rt, "Euclid", &WholeRuler(Euclid), hill, by_euclid)?;
         let counted = Route {
             gap: Some(CountedRow {
                 units: 12,
@@ -345,14 +367,7 @@ mod tests {
             count: 3,
             marks: &[1, 1, 1],
         };
-        check_route(
-            &rt,
-            "counted",
-            &CountedChessboard,
-            hill,
-            OLD_COUNTED,
-            counted,
-        )?;
+        check_counted(&rt, "counted", hill, counted)?;
         let mut draft = open(STRIP)?;
         let map = measure(&mut draft, &cells, &pad_groups(1, 2), 1)?;
         let row = Row::new(&rt, what, &draft, &map);
@@ -374,7 +389,7 @@ mod tests {
             count: 0,
             marks: &[0, 0, 0],
         };
-        check_route(&rt, what, &BY_CHESSBOARD, wall, OLD, none)?;
+        check_whole(&rt, what, &BY_CHESSBOARD, wall, none)?;
         let mut draft = open(STRIP)?;
         let map = measure(&mut draft, &cells, &pad_groups(1, 2), 1)?;
         let row = Row::new(&rt, what, &draft, &map);
