@@ -2,7 +2,8 @@
 ghost use Rattle.std.specs.Prelude.{◌≡◌};
 ghost use Rattle.board.specs.Tables.{known_pad};
 
-// A cell of the board: its height, its pad (0 is bare), and whether it is barred or open.
+// A cell of the board: its height, its pad (0 is bare), and whether it is barred or open. No enum and no `Option`: a table may hold
+// any bytes, and each of them has a meaning, pad 65 of a barred cell too.
 #[derive(Clone, Copy, Debug, PartialEq, Eq)]
 pub struct Cell {
     pub height: u16,

@@ -2,7 +2,8 @@
 ghost use Rattle.std.specs.Prelude.{◌≡◌, true, false, MatchOption};
 ghost use Rattle.board.specs.Records.{offered_record, unreached_record};
 
-// What a map says of one cell. The length stands as its row, of whichever kind the gauge measures in.
+// What a map says of one cell. The length stands as its row, of whichever kind the gauge measures in. A flag beside the rest and
+// no `Option`: a record that is not reached holds its cell's best offer while a map is measured, and a table may hold anything.
 #[derive(Clone, Copy, Debug, PartialEq, Eq)]
 pub struct MapRecord<R> {
     pub length: R,

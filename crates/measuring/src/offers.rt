@@ -107,7 +107,7 @@ impl<'a, G: Gauge> Measurement<'a, G> {
         1
     }
 
-    // Offers a cell's length to its open neighbours in one row, and counts them.
+    // Offers a cell's length to its open neighbours in one row, and counts them. It goes over numbers of columns, which no list holds.
     fn offer_in_row<'q>(
         &self,
         from: Offerer<G::Length>,

@@ -88,6 +88,7 @@ impl<'a, G: Gauge> Measurement<'a, G> {
         let area = self.size.area();
         let mut reached = 0;
         let mut steps = 0;
+        // Nothing is walked here: the queue grows while it is emptied.
         while reached < area {
             let Some(offer) = queue.pop() else {
                 break;

@@ -1,4 +1,5 @@
-// The calls on a plate. A header of plain numbers moves from call to call; the tables are lent.
+// The calls on a plate. A header of plain numbers moves from call to call; the tables are lent. Pads, groups, rows and columns come as
+// numbers, since any may come and a wrong one is sent back with its refusal.
 #![tactic(auto)]
 
 pub mod edits;

@@ -13,6 +13,7 @@ pub fn sift_up<O: Order>(entries: &mut [O::Entry], at: usize, moving: O::Entry)
     ensures ordered { Heap O.Order.le entries.new }
     ensures shuffled { IsPermutation (slice_set entries.old at moving) entries.new }
 {
+    // From child to parent, and below from parent to child: no iterator goes so.
     let mut hole = at;
     while hole > 0 {
         let parent = (hole - 1) / 2;

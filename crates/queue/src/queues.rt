@@ -41,7 +41,7 @@ impl<'a, E: Copy, O: Order<Entry = E>> Queue<'a, E, O> {
         self.len == 0
     }
 
-    // One entry more, or false where the slice is full.
+    // One entry more, or false where the slice is full, as a set answers an insertion: there is no more to say.
     pub fn push(&mut self, entry: E) -> bool
         ensures { Pushes self.old entry self.new result }
     {

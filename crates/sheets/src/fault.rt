@@ -15,6 +15,7 @@ pub enum Layer {
 }
 
 impl Layer {
+    // The word that `Display` prints, for whoever wants it alone.
     pub fn name(self) -> &'static str
         ensures { result.now ≡ name_of self }
     {
