@@ -29,7 +29,7 @@ pub struct Counts {
     pub steps: usize,
 }
 
-// Measures the map of one group. The group is a number and no `Group`: each has a map, that of no pad an empty one.
+// Measures the map of one group. The group is a number and no `Group`: the map of a number that no pad has is promised too.
 pub fn measure_group<G: Gauge>(
     gauge: &G,
     size: Size,
