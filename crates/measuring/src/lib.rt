@@ -23,7 +23,7 @@ use queue::{Offer, Queue};
 pub type RowOf<G> = <<G as Gauge>::Length as Length>::Row;
 
 // How many cells were reached, and how many steps were put to the gauge.
-#[derive(Clone, Copy, Debug, PartialEq)]
+#[derive(Clone, Copy, Debug, PartialEq, Eq)]
 pub struct Counts {
     pub reached: usize,
     pub steps: usize,

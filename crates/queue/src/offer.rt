@@ -7,7 +7,7 @@ use lengths::Length;
 use std::marker::PhantomData;
 
 // A length, as its row, offered to a cell by its number.
-#[derive(Clone, Copy, Debug, PartialEq)]
+#[derive(Clone, Copy, Debug, PartialEq, Eq)]
 pub struct Offer<R> {
     pub length: R,
     pub cell: usize,

@@ -8,7 +8,7 @@ use queue::{ByLength, Offer, OfferQueue, Order};
 pub const OFFERS: usize = 300;
 
 // What came out of a queue.
-#[derive(Clone, Copy, Debug, PartialEq)]
+#[derive(Clone, Copy, Debug, PartialEq, Eq)]
 pub struct Drained {
     pub count: usize,
     pub cells: u64,

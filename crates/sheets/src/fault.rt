@@ -36,7 +36,7 @@ impl fmt::Display for Layer {
 }
 
 // A refusal with the line, counted from 1, and the field at fault; the line's word is field 0.
-#[derive(Clone, Copy, Debug, PartialEq)]
+#[derive(Clone, Copy, Debug, PartialEq, Eq)]
 pub struct Fault {
     pub line: usize,
     pub field: u8,

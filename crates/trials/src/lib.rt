@@ -14,7 +14,7 @@ pub const CELLS: usize = 9;
 pub const BARE: Cell = Cell::BARE;
 
 // What measuring both groups of a board came to.
-#[derive(Clone, Copy, Debug, PartialEq)]
+#[derive(Clone, Copy, Debug, PartialEq, Eq)]
 pub struct Outcome {
     pub first: Counts,
     pub second: Counts,
