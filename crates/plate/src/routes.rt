@@ -55,12 +55,7 @@ impl<R: Ruler> Maps<'_, R> {
     pub fn least_sum(&self) -> Option<R::Length>
         ensures { result ≡ least_sum R.Length.kind R.Length.rows (R.Ruler.ruling self.now.ruler.now).sum self.now.first.now self.now.second.now self.now.area }
     {
-        // As a fold it takes half as long again.
-        let mut best = None;
-        for number in 0..self.area {
-            best = shorter(best, self.sum_at(number));
-        }
-        best
+        (0..self.area).fold(None, |best, number| shorter(best, self.sum_at(number)))
     }
 
     // Marks each cell whose two distances sum to the gap with 1 and the others with 0, and counts the first.
