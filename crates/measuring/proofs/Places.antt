@@ -1,15 +1,17 @@
 -- Which offers a walk over the rows around a cell can leave out. Assumes nothing.
-use Rattle.std.proofs.Common.{◌≡◌, ℕ, ◌+◌, ◌-◌, ◌*◌, ◌/◌, ◌%◌, ◌<◌, ◌≤◌, min, Bool, true, false, cond, ◌&&◌, ltb, ◌⊎◌, List, None, Option, sym, refl, ap, ◌∙◌, inl, inr, ⊎_elim, arith}
+use Rattle.std.proofs.Common.{◌≡◌, ℕ, ◌+◌, ◌-◌, ◌*◌, ◌/◌, ◌%◌, ◌<◌, ◌≤◌, min, Bool, true, false, cond, not, ◌&&◌, ◌||◌, eqb, ◌⊎◌, List, None, Option, sym, refl, ap, ◌∙◌, inl, inr, ⊎_elim, arith}
 use Rattle.std.proofs.lemmas.Nat.{div-add-mod', div_below, div-mul-add, mod_below, mod-mul-add}
-use Rattle.std.proofs.lemmas.Bool.{and_from, and_left, and_right, cases_eq, cases_lt, cond-false, cond-true, lt-ltb, not_from_false, not_from_true}
+use Rattle.std.proofs.lemmas.Bool.{and_from, and_left, and_right, cases_eq, cases_lt, cond_both, cond-false, cond-true, lt-ltb, not_from_false, not_from_true}
 use Rattle.std.proofs.lemmas.Bool.Decides.{nat_tests}
+use Rattle.std.proofs.Math.Bool.{and-true}
 use Rattle.board.specs.Sizes.{area}
+use Rattle.board.specs.declared.cell.Cell.{Cell}
 use Rattle.board.specs.declared.size.Size.{Size}
 use Rattle.board.specs.declared.record.MapRecord.{MapRecord}
 use Rattle.lengths.specs.Kinds.{Kind, Rows}
 use Rattle.queue.specs.declared.offer.Offer.{Offer}
 use Rattle.gauges.specs.Meanings.{Crossing, crossed}
-use Rattle.gauges.specs.Steps.{neighbours}
+use Rattle.gauges.specs.declared.step.Point.{Point}
 use Rattle.measuring.specs.Boards.{Board, cell, open_neighbour, open_neighbours, point}
 use Rattle.measuring.specs.Paths.{Measuring, measuring}
 use Rattle.measuring.specs.Rankings.{Bid, offer, offered}
@@ -48,31 +50,45 @@ abbrev pub Skips : Board → ℕ → ℕ → ℕ → ℕ → ℕ → Type 0
 Skips b i row column row' column' =
     (j : ℕ) → j < area b.size → (before b.size row column j ≡ before b.size row' column' j) ⊎ (open_neighbour b i j ≡ false)
 
-pub counted_skips : (b : Board) (i row column row' column' : ℕ) → Skips b i row column row' column' → counted_before b i row column ≡ counted_before b i row' column'
+counted_skips : (b : Board) (i row column row' column' : ℕ) → Skips b i row column row' column' → counted_before b i row column ≡ counted_before b i row' column'
 counted_skips b i row column row' column' skips =
     how_many_same _ _ _ (λ j lt.
     ⊎_elim (λ e. ap (λ t. open_neighbour b i j && t) e) (λ isnt. and_left _ _ isnt ∙ sym (and_left _ _ isnt)) (skips j lt))
 
 module _ {L : Type 0} (m : Measuring L) (x : Bid L) (view : ℕ → View L) where
-  pub no_offer : (j : ℕ) → open_neighbour m.board x.cell j ≡ false → offer m x j ≡ None
+  no_offer : (j : ℕ) → open_neighbour m.board x.cell j ≡ false → offer m x j ≡ None
   no_offer j isnt = ap (offered x j) (cond-false _ _ _ isnt)
 
-  pub offered_skips : (row column row' column' : ℕ) → Skips m.board x.cell row column row' column' → (j : ℕ) → j < area m.board.size → offered_before m x view row column j ≡ offered_before m x view row' column' j
+  offered_skips : (row column row' column' : ℕ) → Skips m.board x.cell row column row' column' → (j : ℕ) → j < area m.board.size → offered_before m x view row column j ≡ offered_before m x view row' column' j
   offered_skips row column row' column' skips j lt =
       ⊎_elim
       (λ e. ap (λ t. cond t (raised m.kind (view j) (offer m x j)) (view j)) e)
       (λ isnt.
       let same : raised m.kind (view j) (offer m x j) ≡ view j = ap (raised m.kind (view j)) (no_offer j isnt) in
-      either (before m.board.size row column j) same ∙ sym (either (before m.board.size row' column' j) same))
+      let stays : (t : Bool) → cond t (raised m.kind (view j) (offer m x j)) (view j) ≡ view j = λ t. cond_both t _ _ (λ v. v ≡ view j) (λ _. same) (λ _. refl) in
+      stays _ ∙ sym (stays _))
       (skips j lt)
-    where
-      either : {j : ℕ} (t : Bool) → raised m.kind (view j) (offer m x j) ≡ view j → cond t (raised m.kind (view j) (offer m x j)) (view j) ≡ view j
-      either true same = same
-      either false same = refl
 
-pub skipped_tracked : {L R : Type 0} {kind : Kind L} {rows : Rows L R} {map : List (MapRecord R)} {es : List (Offer R)} (g : Crossing L) (b : Board) (group : ℕ) (x : Bid L) (view : ℕ → View L) (row column row' column' : ℕ) → Skips b x.cell row column row' column' → Tracks kind rows (area b.size) (offered_before (measuring kind g b group) x view row column) map es → Tracks kind rows (area b.size) (offered_before (measuring kind g b group) x view row' column') map es
-skipped_tracked {kind = kind} g b group x view row column row' column' skips t =
-    tracks_same (offered_skips (measuring kind g b group) x view row column row' column' skips) t
+-- from one place to another a cell has made its offers: so many steps are counted, and the map and the queue hold the offers
+pub record Walked {L R : Type 0} (rows : Rows L R) (m : Measuring L) (from : Offerer L) (row column row' column' steps : ℕ) (map : List (MapRecord R)) (es : List (Offer R)) (map' : List (MapRecord R)) (es' : List (Offer R)) : Type 0 where
+  pub counts : counted_before m.board from.number row column + steps ≡ counted_before m.board from.number row' column'
+  pub tracks : (view : ℕ → View L) → 0 < from.pad → Tracks m.kind rows (area m.board.size) (offered_before m (offerer from) view row column) map es → Tracks m.kind rows (area m.board.size) (offered_before m (offerer from) view row' column') map' es'
+
+module _ {L R : Type 0} {rows : Rows L R} {m : Measuring L} {from : Offerer L} {row column : ℕ} {map : List (MapRecord R)} {es : List (Offer R)} where
+  pub stood : Walked rows m from row column row column 0 map es map es
+  stood = record { counts = omega arith; tracks = λ view pad t. t }
+
+  pub skipped : {row' column' row'' column'' steps : ℕ} {map' : List (MapRecord R)} {es' : List (Offer R)} → Walked rows m from row column row' column' steps map es map' es' → Skips m.board from.number row' column' row'' column'' → Walked rows m from row column row'' column'' steps map es map' es'
+  skipped walked skips = record {
+    counts = walked.counts ∙ counted_skips m.board from.number _ _ _ _ skips;
+    tracks = λ view pad t. tracks_same (offered_skips m (offerer from) view _ _ _ _ skips) (walked.tracks view pad t);
+  }
+
+  pub walked_on : {row' column' row'' column'' steps more : ℕ} {map' map'' : List (MapRecord R)} {es' es'' : List (Offer R)} → Walked rows m from row column row' column' steps map es map' es' → Walked rows m from row' column' row'' column'' more map' es' map'' es'' → Walked rows m from row column row'' column'' (steps + more) map es map'' es''
+  walked_on walked then = record {
+    counts = omega (arith, walked.counts, then.counts);
+    tracks = λ view pad t. then.tracks view pad (walked.tracks view pad t);
+  }
 
 module _ (b : Board) (i : ℕ) where
   abbrev columns : ℕ
@@ -133,22 +149,18 @@ module _ (b : Board) (i row column : ℕ) (within : column < b.size.columns) whe
   abbrev beside : ℕ
   beside = row * b.size.columns + column
 
-  pub itself_closed : row ≡ i / b.size.columns → column ≡ i % b.size.columns → open_neighbour b i beside ≡ false
-  itself_closed same_row same-column =
+  pub beside_is : (at : Point) (x : Cell) (passed : Bool) → at ≡ point b i → cell b beside ≡ x → (row ≤ at.row + 1) × ((at.row ≤ row + 1) × ((column ≤ at.column + 1) × (at.column ≤ column + 1))) → beside < area b.size → passed ≡ ((eqb row at.row && eqb column at.column) || x.barred) → open_neighbour b i beside ≡ not passed
+  beside_is at x passed placed read near on-board told =
       let q = div-mul-add row b.size.columns column within in
       let r = mod-mul-add row b.size.columns column within in
+      let row_is = ap (λ p. p.row) placed in
+      let column_is = ap (λ p. p.column) placed in
+      let barred_is = ap (λ y. y.barred) read in
+      let above = near.0 in
+      let below = near.1.0 in
+      let left = near.1.1.0 in
+      let right = near.1.1.1 in
       grind (arith, nat_tests)
-
-  pub barred_closed : (cell b beside).barred ≡ true → open_neighbour b i beside ≡ false
-  barred_closed barred =
-      and_right (neighbours (point b i).row (point b i).column (point b beside).row (point b beside).column) _ (and_right (ltb beside (area b.size)) _ (not_from_true _ barred))
-
-  pub beside_open : row ≤ i / b.size.columns + 1 → i / b.size.columns ≤ row + 1 → column ≤ i % b.size.columns + 1 → i % b.size.columns ≤ column + 1 → (row ≡ i / b.size.columns → column ≡ i % b.size.columns → ⊥) → beside < area b.size → (cell b beside).barred ≡ false → open_neighbour b i beside ≡ true
-  beside_open below above left right other on-board unbarred =
-      let q = div-mul-add row b.size.columns column within in
-      let r = mod-mul-add row b.size.columns column within in
-      and_from _ _ (⊎_elim (λ e. ⊎_elim (λ f. absurd (other e f)) (λ f. grind (arith, nat_tests)) (cases_eq column (i % b.size.columns))) (λ e. grind (arith, nat_tests)) (cases_eq row (i / b.size.columns)))
-      (and_from _ _ (lt-ltb beside (area b.size) on-board) (not_from_false _ unbarred))
 
   pub across_is : {L : Type 0} (kind : Kind L) (g : Crossing L) (group : ℕ) (from : Offerer L) (height : ℕ) → from.number ≡ i → from.at ≡ point b i → height ≡ (cell b beside).height → open_neighbour b i beside ≡ true → across g from (record { row = row; column = column; height = height }) beside ≡ offer (measuring kind g b group) (offerer from) beside
   across_is kind g group from height number at high opens =
@@ -158,10 +170,6 @@ module _ (b : Board) (i row column : ℕ) (within : column < b.size.columns) whe
       (λ k. crossed g (record { from = (at ∙ ap (point b) (sym number)) k; to = record { row = q k; column = r k; height = high k } }) from.length) ∙
       sym (cond-true (open_neighbour b from.number beside) _ None (ap (λ n. open_neighbour b n beside) number ∙ opens))
       )
-
-and_true : (t : Bool) → (t && true) ≡ t
-and_true true = refl
-and_true false = refl
 
 -- before the first row is nothing, and before the row below the last one everything
 before_none : (size : Size) (j : ℕ) → before size 0 0 j ≡ false
@@ -176,7 +184,7 @@ pub counted_none : (b : Board) (i : ℕ) → counted_before b i 0 0 ≡ 0
 counted_none b i = how_many_none _ _ (λ j lt. and_right _ _ (before_none b.size j))
 
 pub counted_all : (b : Board) (i : ℕ) → counted_before b i b.size.rows 0 ≡ open_neighbours b i
-counted_all b i = how_many_same _ _ _ (λ j lt. ap (λ t. open_neighbour b i j && t) (before_all b.size j lt) ∙ and_true (open_neighbour b i j))
+counted_all b i = how_many_same _ _ _ (λ j lt. ap (λ t. open_neighbour b i j && t) (before_all b.size j lt) ∙ and-true (open_neighbour b i j))
 
 module _ {L : Type 0} (m : Measuring L) (x : Bid L) (view : ℕ → View L) where
   pub offered_none : (j : ℕ) → view j ≡ offered_before m x view 0 0 j

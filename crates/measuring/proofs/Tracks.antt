@@ -1,8 +1,8 @@
 -- What an offer, a rank and a dropped entry do to the map and the queue as they are tracked. Assumes nothing.
-use Rattle.std.proofs.Common.{◌≡◌, ℕ, zero, suc, ◌+◌, ◌<◌, ◌≤◌, Bool, true, false, not, eqb, ◌⊎◌, List, ◌∷◌, length, get_or, set, Some, None, Option, sym, refl, ap, ◌∙◌, subst, inl, inr, ⊎_elim, arith}
+use Rattle.std.proofs.Common.{◌≡◌, ℕ, zero, suc, ◌+◌, ◌<◌, ◌≤◌, Bool, true, false, not, eqb, ◌⊎◌, List, [], ◌∷◌, length, get_or, set, Some, None, Option, sym, refl, ap, ◌∙◌, subst, inl, inr, ⊎_elim, arith}
 use Rattle.std.specs.List.{ContainsAt, AllByRecursion}
 use Rattle.std.specs.List.Sorted.{IsPermutation}
-use Rattle.std.proofs.ByRecursion.{All-weaker, all_shuffled, has_shuffled}
+use Rattle.std.proofs.ByRecursion.{All-weaker, all_shuffled, has_append_right, has_get_or, has_shuffled}
 use Rattle.std.proofs.lemmas.List.{get_or-set_same, get_or-set_other}
 use Rattle.std.proofs.lemmas.Bool.{and_cases, and_parts, cases_eq, both_ways, cond-true, cond-false, eq-eqb, eqb-true, lt-ltb, ne_eqb, not-false}
 use Rattle.std.proofs.lemmas.Bool.Decides.{when_true}
@@ -17,12 +17,6 @@ use Rattle.measuring.specs.Rankings.{Bid}
 use Rattle.measuring.specs.Tracking.{View, unknown, waiting, placed, raised, shown, entry, Owed, Tracks, updated, keeps}
 use Rattle.measuring.proofs.Ranked.{le_same, le_since_not}
 
-pub has_first : {X : Type 0} (x : X) (xs : List X) → ContainsAt (x ∷ xs) x
-has_first x xs = (0, omega arith, λ d. refl)
-
-pub has_later : {X : Type 0} {x : X} (y : X) (xs : List X) → ContainsAt xs x → ContainsAt (y ∷ xs) x
-has_later y xs (k, lt, is) = (suc k, omega arith, is)
-
 pub has_cases : {X : Type 0} {x : X} (y : X) (xs : List X) → ContainsAt (y ∷ xs) x → (y ≡ x) ⊎ ContainsAt xs x
 has_cases y xs (zero, lt, is) = inl (is y)
 has_cases y xs (suc k, lt, is) = inr (k, omega arith, is)
@@ -30,9 +24,6 @@ has_cases y xs (suc k, lt, is) = inr (k, omega arith, is)
 -- a push onto a queue with room
 pub pushed : {E O : Type 0} {g : Ghosts O E} {q q' : Queue E O g} {x : E} {r : Bool} → Pushes q x q' r → q.len < length q.entries.now → IsPermutation (x ∷ queued q) (queued q')
 pushed {q = q} p room = when_true _ _ (p.answer ∙ lt-ltb q.len _ room) p.added
-
-pub same_offer : {L : Type 0} {x y : Bid L} → waiting x ≡ waiting y → x ≡ y
-same_offer e = cc
 
 pub updated_here : {L : Type 0} (view : ℕ → View L) (i : ℕ) (v : View L) → updated view i v i ≡ v
 updated_here view i v = cond-true (eqb i i) _ _ (eq-eqb i i refl)
@@ -135,8 +126,8 @@ module _ {L R : Type 0} {kind : Kind L} {rows : Rows L R} (laws : KindLaws kind 
       (λ v. Tracks kind rows n' view' (set map i (shown kind rows v)) (entry rows x ∷ es))
       is
       (put i t within elsewhere
-      (λ y e. let same : x ≡ y = same_offer (sym is ∙ e) in subst (λ z. (z.cell ≡ i) × (0 < z.pad) × ContainsAt (entry rows x ∷ es) (entry rows z)) same (named, pad, has_first _ es))
-      (λ e _ had. has_later _ es had)
+      (λ y e. let waits = sym is ∙ e in let same : x ≡ y = cc in subst (λ z. (z.cell ≡ i) × (0 < z.pad) × ContainsAt (entry rows x ∷ es) (entry rows z)) same (named, pad, has_get_or (entry rows x ∷ es) 0 (entry rows x) (omega arith)))
+      (λ e _ had. has_append_right (entry rows x ∷ []) es e had)
       ((omega arith, subst (λ v. Owed kind rows v (entry rows x)) (sym (ap view' named ∙ is)) (le_same laws (sym (laws.same x.length)))), All-weaker _ _ owed-still es t.owed))
       )
 

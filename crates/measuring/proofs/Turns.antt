@@ -3,7 +3,7 @@ use Rattle.std.proofs.Common.{◌≡◌, ℕ, suc, ◌+◌, ◌<◌, ◌≤◌, 
 use Rattle.std.specs.List.{ContainsAt, AllByRecursion}
 use Rattle.std.specs.List.Sorted.{IsPermutation}
 use Rattle.std.proofs.lemmas.List.FromFn.{fill_by_all}
-use Rattle.std.proofs.ByRecursion.{all-has}
+use Rattle.std.proofs.ByRecursion.{all-has, all_shuffled, has_get_or}
 use Rattle.std.proofs.lemmas.List.Sums.{sum_by-cons}
 use Rattle.std.proofs.lemmas.Bool.{and_parts, both_ways, cases_Bool, cases_eq, cond-false, cond-true, eq-eqb, leb-true, lt-ltb, ne_eqb, not-true, or_cases, or_parts}
 use Rattle.board.specs.Records.{unreached_record}
@@ -18,21 +18,21 @@ use Rattle.measuring.specs.Rankings.{Bid, best, first_ranked, is_ranked, next, o
 use Rattle.measuring.specs.Maps.{measured_map, reached_count, record_at, step_count}
 use Rattle.measuring.specs.Tracking.{View, unknown, waiting, placed, begun, starting, view_of, raised, standing, shown, entry, Owed, Ranks, Tracks, updated}
 use Rattle.measuring.proofs.Ranked.{all_ranked, first_ranked_more, first_ranked_sound, first_ranked_stops, is_next, none_next, option_cases, le_same}
-use Rattle.measuring.proofs.Tracks.{same_offer, updated_here, updated_other, has_first, drop_first, tracks_same, tracks_shuffled}
+use Rattle.measuring.proofs.Tracks.{updated_here, updated_other, drop_first, tracks_same, tracks_shuffled}
 
 raised_placed : {L : Type 0} (kind : Kind L) (k : ℕ) (x : Bid L) (o : Option (Bid L)) → raised kind (placed k x) o ≡ placed k x
 raised_placed kind k x None = refl
 raised_placed kind k x (Some y) = refl
 
+view_either : {L : Type 0} (t : Bool) (a b : Option (Bid L)) → cond t (view_of a) (view_of b) ≡ view_of (cond t a b)
+view_either true a b = refl
+view_either false a b = refl
+
 raised_view : {L : Type 0} (kind : Kind L) (a o : Option (Bid L)) → raised kind (view_of a) o ≡ view_of (shorter kind a o)
 raised_view kind None None = refl
 raised_view kind (Some y) None = refl
 raised_view kind None (Some x) = refl
-raised_view kind (Some y) (Some x) = either (kind.le y.length x.length)
-  where
-    either : (t : Bool) → cond t (waiting y) (waiting x) ≡ view_of (cond t (Some y) (Some x))
-    either true = refl
-    either false = refl
+raised_view kind (Some y) (Some x) = view_either (kind.le y.length x.length) (Some y) (Some x)
 
 module _ {L : Type 0} (m : Measuring L) where
   -- an offer depends on its cell, length and pad
@@ -107,7 +107,7 @@ module _ {L R : Type 0} (m : Measuring L) {rows : Rows L R} (laws : KindLaws m.k
       let unranked : is_ranked rs e.cell ≡ false = ⊎_elim (λ is. let ranked = standing_ranked m rows rs e.cell is in let place_is = ranked.2 in let z : ◌≡◌ {A = ℕ} 0 1 = cc in absurd (omega arith)) (λ isnt. isnt) (cases_Bool (is_ranked rs e.cell)) in
       let made : best m rs e.cell ≡ Some x = ⊎_elim
       (λ none. let view-is = sym (standing_unranked m rs e.cell unranked ∙ ap view_of none) ∙ waits in let z : ◌≡◌ {A = ℕ} 0 1 = cc in absurd (omega arith))
-      (λ some. some.1 ∙ ap Some (same_offer (sym (standing_unranked m rs e.cell unranked ∙ ap view_of some.1) ∙ waits)))
+      (λ some. some.1 ∙ ap Some (let view-is = sym (standing_unranked m rs e.cell unranked ∙ ap view_of some.1) ∙ waits in cc))
       (option_cases (best m rs e.cell)) in
       let known : (j : ℕ) (y : Bid L) → is_ranked rs j ≡ false → best m rs j ≡ Some y → standing m rs j ≡ waiting y = λ j y isnt is. standing_unranked m rs j isnt ∙ ap view_of is in (
         level,
@@ -162,7 +162,7 @@ module _ {L R : Type 0} (m : Measuring L) {rows : Rows L R} (laws : KindLaws m.k
       go : (v : View L) → standing m (first_ranked m k) e.cell ≡ v → (x : Bid L) × (standing m (first_ranked m k) e.cell ≡ waiting x) × (rows.decode e.length ≡ x.length) × (next m (first_ranked m k) ≡ Some x)
       go unknown is = absurd (subst (λ v. Owed m.kind rows v e) is ranks.tracks.owed.0.1)
       go (waiting x) is =
-          let found = least_is_next (first_ranked m k) map (e ∷ es) e x ranks.tracks (has_first e es) least is in
+          let found = least_is_next (first_ranked m k) map (e ∷ es) e x ranks.tracks (has_get_or (e ∷ es) 0 e (omega arith)) least is in
           (x, is, found.0, found.1)
       go (placed n x) is = absurd (both_ways _ unreached (ap (λ a. a.reached) (marked (first_ranked m k) map es e r ranks.tracks read (placed n x) is)))
 
@@ -180,24 +180,21 @@ module _ {L R : Type 0} (m : Measuring L) {rows : Rows L R} (laws : KindLaws m.k
         tracks = subst (λ l. Tracks m.kind rows (area m.board.size) (standing m l) map' es') (sym grown) (tracks_same (λ j lt. standing_more m rs x e.cell k named ranks.many j) t);
       }
 
-begun_view : {L : Type 0} (kind : Kind L) (j pad : ℕ) → begun kind j pad ≡ view_of (cond (eqb pad 0) None (Some (record { cell = j; length = kind.zero; pad = pad; link = j })))
-begun_view kind j pad = either (eqb pad 0)
-  where
-    either : (t : Bool) → cond t unknown (waiting (record { cell = j; length = kind.zero; pad = pad; link = j })) ≡ view_of (cond t None (Some (record { cell = j; length = kind.zero; pad = pad; link = j })))
-    either true = refl
-    either false = refl
-
 -- where the ranking begins
 pub started : {L R : Type 0} (rows : Rows L R) (m : Measuring L) (map : List (MapRecord R)) (es : List (Offer R)) → Tracks m.kind rows (area m.board.size) (starting m.kind m.board.cells m.board.groups m.group) map es → Ranks rows m 0 0 map es
 unfolding first_ranked standing
 started rows m map es t = record {
   many = refl;
   counts = refl;
-  tracks = tracks_same (λ j lt. ap (begun m.kind j) (sym (cond-true (ltb j (area m.board.size)) _ _ (lt-ltb j _ lt))) ∙ begun_view m.kind j _) t;
+  tracks = tracks_same (λ j lt. ap (begun m.kind j) (sym (cond-true (ltb j (area m.board.size)) _ _ (lt-ltb j _ lt))) ∙ view_either _ None (Some _)) t;
 }
 
 pub ranks_shuffled : {L R : Type 0} {rows : Rows L R} {m : Measuring L} {k steps : ℕ} {map : List (MapRecord R)} {es es' : List (Offer R)} → IsPermutation es es' → Ranks rows m k steps map es → Ranks rows m k steps map es'
 ranks_shuffled shuffled ranks = record { many = ranks.many; counts = ranks.counts; tracks = tracks_shuffled shuffled ranks.tracks }
+
+-- a turn with the least entry, which is taken out
+pub turned : {L R : Type 0} {rows : Rows L R} {m : Measuring L} {k steps : ℕ} {e : Offer R} {map : List (MapRecord R)} {es es' : List (Offer R)} {T : Type 0} → IsPermutation es (e ∷ es') → AllByRecursion (λ f. offer_le m.kind rows e f ≡ true) es → Ranks rows m k steps map es → (AllByRecursion (λ f. offer_le m.kind rows e f ≡ true) (e ∷ es') → Ranks rows m k steps map (e ∷ es') → T) → T
+turned shuffled least ranks turn = turn (all_shuffled _ _ _ shuffled least) (ranks_shuffled shuffled ranks)
 
 -- where it ends
 pub record Finished {L R : Type 0} (rows : Rows L R) (m : Measuring L) (reached steps : ℕ) (map : List (MapRecord R)) : Type 0 where

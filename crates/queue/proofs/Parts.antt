@@ -1,5 +1,5 @@
 -- A queue's part of its slice before and after sifting. Assumes nothing.
-use Rattle.std.proofs.Common.{◌≡◌, ℕ, ◌+◌, ◌<◌, ◌≤◌, Bool, true, List, [], ◌∷◌, ◌++◌, length, get_or, take, drop, set, sym, ap, ◌∙◌, subst, arith}
+use Rattle.std.proofs.Common.{◌≡◌, ℕ, ◌+◌, ◌<◌, ◌≤◌, Bool, true, ◌≢◌, List, [], ◌∷◌, ◌++◌, length, get_or, take, drop, set, sym, ap, ◌∙◌, subst, arith}
 use Rattle.std.specs.List.{AllByRecursion}
 use Rattle.std.specs.List.Sorted.{IsPermutation}
 use Rattle.std.proofs.ByRecursion.{All-from_get_or}
@@ -9,42 +9,18 @@ use Rattle.queue.specs.Orders.{OrderLaws}
 use Rattle.queue.specs.Heaps.{parent, Heap, Holed}
 use Rattle.queue.proofs.Sifting.{first_least}
 
--- a list whose first m entries were replaced by ys
-module _ {E : Type 0} (xs ys : List E) (m : ℕ) (within : m ≤ length xs) (long : length ys ≡ m) where
-  pub part_is : take m (ys ++ drop m xs) ≡ ys
-  part_is = take_at ys (drop m xs) m long
-
-  pub rest_is : drop m (ys ++ drop m xs) ≡ drop m xs
-  rest_is = drop_at ys (drop m xs) m long
-
-  pub room_is : length (ys ++ drop m xs) ≡ length xs
-  room_is = omega (arith, length-append ys (drop m xs), length-drop m xs)
-
 module _ {E : Type 0} {le : E → E → Bool} where
-  -- a place behind a heap is a hole at its end
-  pub holed_behind : (xs : List E) (n m : ℕ) → m ≡ n + 1 → n < length xs → Heap le (take n xs) → Holed le (take m xs) n
-  holed_behind xs n m one lt heap =
-      let long : length (take m xs) ≡ m = length-take-le m xs (omega arith) in
-      let short : length (take n xs) ≡ n = length-take-le n xs (omega arith) in
+  -- of a heap so many entries, with a hole at one place, which is the first or the last
+  pub holed_part : (xs : List E) (n m h : ℕ) → m ≤ length xs → n ≤ length xs → ((i : ℕ) → i < m → i ≢ h → i < n) → (0 < h → m ≤ h + 1) → Heap le (take n xs) → Holed le (take m xs) h
+  holed_part xs n m h within longer kept last heap =
+      let part : length (take m xs) ≡ m = length-take-le m xs within in
+      let whole : length (take n xs) ≡ n = length-take-le n xs longer in
       record {
         apart = λ i d some in-part isnt other.
-            let at : i < n = omega arith in
+            let at : i < n = kept i (omega arith) isnt in
             (λ j. le ((get_or-take m xs (parent i) d (omega arith) ∙ sym (get_or-take n xs (parent i) d (omega arith))) j) ((get_or-take m xs i d (omega arith) ∙ sym (get_or-take n xs i d at)) j))
             ∙ heap i d some (omega arith);
-        across = λ i d some behind in-part is. absurd (omega arith);
-      }
-
-  -- a heap without some of its last entries, with a hole at the front
-  pub holed_front : (xs : List E) (n m : ℕ) → m ≤ n → n ≤ length xs → Heap le (take n xs) → Holed le (take m xs) 0
-  holed_front xs n m fewer within heap =
-      let long : length (take m xs) ≡ m = length-take-le m xs (omega arith) in
-      let short : length (take n xs) ≡ n = length-take-le n xs within in
-      record {
-        apart = λ i d some in-part isnt other.
-            let at : i < m = omega arith in
-            (λ j. le ((get_or-take m xs (parent i) d (omega arith) ∙ sym (get_or-take n xs (parent i) d (omega arith))) j) ((get_or-take m xs i d at ∙ sym (get_or-take n xs i d (omega arith))) j))
-            ∙ heap i d some (omega arith);
-        across = λ i d some behind in-part is. absurd (omega arith);
+        across = λ i d some behind in-part is. let end = last some in absurd (omega arith);
       }
 
 -- an entry more at the end, and then the sifting

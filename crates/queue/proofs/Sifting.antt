@@ -5,20 +5,14 @@ use Rattle.std.proofs.lemmas.List.Edits.{swap_is}
 use Rattle.std.proofs.lemmas.List.{get_or-set_same, get_or-set_other, length-set, set-set}
 use Rattle.std.proofs.lemmas.List.Sorted.{IsPermutation-swap, IsPermutation-trans}
 use Rattle.std.proofs.lemmas.Bool.{cases_eq, false≢true}
+use Rattle.std.proofs.lemmas.Grind.{get_or-set_at}
 use Rattle.queue.specs.Orders.{OrderLaws}
 use Rattle.queue.specs.Heaps.{parent, Heap, Holed, Above, BelowAll}
 
--- a list with one entry written
+-- what is read of a list with one entry written
+ruleset written = (length-set, get_or-set_at, get_or-set_other)
+
 module _ {E : Type 0} (xs : List E) (h : ℕ) (v : E) where
-  here : h < length xs → (i : ℕ) (d : E) → i ≡ h → get_or (set xs h v) i d ≡ v
-  here within i d is = ap (λ j. get_or (set xs h v) j d) is ∙ get_or-set_same xs h v d within
-
-  elsewhere : (i : ℕ) (d : E) → i ≢ h → get_or (set xs h v) i d ≡ get_or xs i d
-  elsewhere i d isnt = get_or-set_other xs h i v d isnt
-
-  shorter : (i : ℕ) → i < length (set xs h v) → i < length xs
-  shorter i lt = omega (arith, length-set xs h v)
-
   -- the hole moves from h to k, whose entry goes to h: as if the two were exchanged
   pub shuffled_moved : (ys : List E) (k : ℕ) (x : E) → h < length xs → k < length xs → k ≢ h → ((d : E) → v ≡ get_or xs k d) → IsPermutation ys (set xs h x) → IsPermutation ys (set (set xs h v) k x)
   shuffled_moved ys k x h-in k-in apart value so_far =
@@ -32,9 +26,6 @@ module _ {E : Type 0} (xs : List E) (h : ℕ) (v : E) where
       (IsPermutation-swap old (set (set xs h v) k x) h k (omega arith) (omega arith) (moved ∙ swap_is old h k x (omega arith) (omega arith)))
 
 module _ {E : Type 0} {le : E → E → Bool} (laws : OrderLaws le) where
-  equal : {a b c d : E} → a ≡ c → b ≡ d → le c d ≡ true → le a b ≡ true
-  equal p q is = (λ i. le (p i) (q i)) ∙ is
-
   pub not_before : (a b : E) → false ≡ le a b → le b a ≡ true
   not_before a b isnt = ⊎_elim (λ is. absurd (false≢true (isnt ∙ is))) (λ back. back) (laws.total a b)
 
@@ -42,10 +33,11 @@ module _ {E : Type 0} {le : E → E → Bool} (laws : OrderLaws le) where
   pub each_child : (xs : List E) (h k : ℕ) → ((d : E) → le (get_or xs k d) (get_or xs (2 * h + 1) d) ≡ true) → ((d : E) → 2 * h + 1 + 1 < length xs → le (get_or xs k d) (get_or xs (2 * h + 1 + 1) d) ≡ true) → (i : ℕ) (d : E) → h < i → i < length xs → parent i ≡ h → le (get_or xs k d) (get_or xs i d) ≡ true
   each_child xs h k left right i d lt n is =
       ⊎_elim
-      (λ at. equal (λ _. get_or xs k d) (ap (λ j. get_or xs j d) at) (left d))
+      (λ at. let least = left d in grind arith)
       (λ other.
       let at : i ≡ 2 * h + 1 + 1 = omega arith in
-      equal (λ _. get_or xs k d) (ap (λ j. get_or xs j d) at) (right d (omega arith)))
+      let least = right d (omega arith) in
+      grind arith)
       (cases_eq i (2 * h + 1))
 
   pub itself : (a : E) → le a a ≡ true
@@ -54,13 +46,14 @@ module _ {E : Type 0} {le : E → E → Bool} (laws : OrderLaws le) where
   -- the hole is filled
   pub filled : (xs : List E) (h : ℕ) (x : E) → h < length xs → Holed le xs h → Above le xs h x → BelowAll le xs h x → Heap le (set xs h x)
   filled xs h x within holed above below i d some lt =
-      let n = shorter xs h x i lt in
+      let n : i < length xs = omega (arith, length-set xs h x) in
       ⊎_elim
       (λ is.
-      equal (elsewhere xs h x (parent i) d (omega arith) ∙ ap (λ j. get_or xs (parent j) d) is) (here xs h x within i d is) (above d (omega arith)))
+      let up = above d (omega arith) in
+      grind (arith, written))
       (λ isnt. ⊎_elim
-      (λ child. equal (here xs h x within (parent i) d child) (elsewhere xs h x i d isnt) (below i d (omega arith) n child))
-      (λ other. equal (elsewhere xs h x (parent i) d other) (elsewhere xs h x i d isnt) (holed.apart i d some n isnt other))
+      (λ child. let down = below i d (omega arith) n child in grind (arith, written))
+      (λ other. let apart = holed.apart i d some n isnt other in grind (arith, written))
       (cases_eq (parent i) h))
       (cases_eq i h)
 
@@ -68,68 +61,63 @@ module _ {E : Type 0} {le : E → E → Bool} (laws : OrderLaws le) where
   module _ (xs : List E) (h k : ℕ) (v : E) (within : h < length xs) (some : 0 < h) (up : parent h ≡ k) (value : (d : E) → v ≡ get_or xs k d) (holed : Holed le xs h) where
     child-of-k : (i : ℕ) (d : E) → k < i → i < length xs → parent i ≡ k → i ≢ h → le v (get_or xs i d) ≡ true
     child-of-k i d lt n is isnt =
-        equal (value d ∙ ap (λ j. get_or xs j d) (sym is)) (λ _. get_or xs i d) (holed.apart i d (omega arith) n isnt (omega arith))
+        let here = value d in
+        let apart = holed.apart i d (omega arith) n isnt (omega arith) in
+        grind (arith, written)
+
+    pub below_up : (x : E) → le x v ≡ true → BelowAll le (set xs h v) k x
+    below_up x less i d lt-i lt is =
+        let n : i < length xs = omega (arith, length-set xs h v) in
+        ⊎_elim
+        (λ at. grind (arith, written))
+        (λ isnt. let through = laws.transitive _ _ _ less (child-of-k i d lt-i n is isnt) in grind (arith, written))
+        (cases_eq i h)
 
     pub moved_up : Holed le (set xs h v) k
     moved_up = record {
       apart = λ i d pos lt isnt other.
-          let n = shorter xs h v i lt in
-          let away : i ≢ h = λ is. other (ap parent is ∙ up) in
+          let n : i < length xs = omega (arith, length-set xs h v) in
+          let is = value d in
           ⊎_elim
-          (λ child.
-          equal (here xs h v within (parent i) d child ∙ value d ∙ ap (λ j. get_or xs j d) (sym up)) (elsewhere xs h v i d away) (holed.across i d some (omega arith) n child))
-          (λ no-child. equal (elsewhere xs h v (parent i) d no-child) (elsewhere xs h v i d away) (holed.apart i d pos n away no-child))
+          (λ child. let across = holed.across i d some (omega arith) n child in grind (arith, written))
+          (λ no-child. let apart = holed.apart i d pos n (omega arith) no-child in grind (arith, written))
           (cases_eq (parent i) h);
       across = λ i d pos lt-i lt is.
-          let n = shorter xs h v i lt in
-          let above-k : le (get_or xs (parent k) d) (get_or xs k d) ≡ true = holed.apart k d pos (omega arith) (omega arith) (omega arith) in
-          let to-v : le (get_or xs (parent k) d) v ≡ true = equal (λ _. get_or xs (parent k) d) (value d) above-k in
-          equal (elsewhere xs h v (parent k) d (omega arith)) (λ _. get_or (set xs h v) i d)
-          (⊎_elim
-          (λ at. equal (λ _. get_or xs (parent k) d) (here xs h v within i d at) to-v)
-          (λ isnt. equal (λ _. get_or xs (parent k) d) (elsewhere xs h v i d isnt) (laws.transitive _ _ _ to-v (child-of-k i d lt-i n is isnt)))
-          (cases_eq i h));
+          let to-v : le (get_or xs (parent k) d) v ≡ true = let here = value d in let above-k = holed.apart k d pos (omega arith) (omega arith) (omega arith) in grind (arith, written) in
+          let least = below_up (get_or xs (parent k) d) to-v i d lt-i lt is in
+          grind (arith, written);
     }
-
-    pub below_up : (x : E) → le x v ≡ true → BelowAll le (set xs h v) k x
-    below_up x less i d lt-i lt is =
-        let n = shorter xs h v i lt in
-        ⊎_elim
-        (λ at. equal (λ _. x) (here xs h v within i d at) less)
-        (λ isnt. equal (λ _. x) (elsewhere xs h v i d isnt) (laws.transitive _ _ _ less (child-of-k i d lt-i n is isnt)))
-        (cases_eq i h)
 
   -- the hole moves down: its lesser child k has moved up
   module _ (xs : List E) (h k : ℕ) (v : E) (within : h < k) (in-part : k < length xs) (down : parent k ≡ h) (value : (d : E) → v ≡ get_or xs k d) (lesser : (i : ℕ) (d : E) → h < i → i < length xs → parent i ≡ h → le (get_or xs k d) (get_or xs i d) ≡ true) (holed : Holed le xs h) where
     pub moved_down : Holed le (set xs h v) k
     moved_down = record {
       apart = λ i d pos lt isnt other.
-          let n = shorter xs h v i lt in
+          let n : i < length xs = omega (arith, length-set xs h v) in
+          let is = value d in
           ⊎_elim
-          (λ is.
-          equal (elsewhere xs h v (parent i) d (omega arith) ∙ ap (λ j. get_or xs (parent j) d) is) (here xs h v (omega arith) i d is ∙ value d) (holed.across k d (omega arith) within in-part down))
+          (λ at. let across = holed.across k d (omega arith) within in-part down in grind (arith, written))
           (λ away. ⊎_elim
-          (λ child. equal (here xs h v (omega arith) (parent i) d child ∙ value d) (elsewhere xs h v i d away) (lesser i d (omega arith) n child))
-          (λ no-child. equal (elsewhere xs h v (parent i) d no-child) (elsewhere xs h v i d away) (holed.apart i d pos n away no-child))
+          (λ child. let least = lesser i d (omega arith) n child in grind (arith, written))
+          (λ no-child. let apart = holed.apart i d pos n away no-child in grind (arith, written))
           (cases_eq (parent i) h))
           (cases_eq i h);
       across = λ i d pos lt-i lt is.
-          equal
-          (here xs h v (omega arith) (parent k) d down ∙ value d ∙ ap (λ j. get_or xs j d) (sym is))
-          (elsewhere xs h v i d (omega arith))
-          (holed.apart i d (omega arith) (shorter xs h v i lt) (omega arith) (omega arith));
+          let n : i < length xs = omega (arith, length-set xs h v) in
+          let here = value d in
+          let apart = holed.apart i d (omega arith) n (omega arith) (omega arith) in
+          grind (arith, written);
     }
-
-    pub above_down : (x : E) → le v x ≡ true → Above le (set xs h v) k x
-    above_down x less d pos = equal (here xs h v (omega arith) (parent k) d down) (λ _. x) less
 
   -- the first of a heap is at most every entry
   root_least : (xs : List E) → Heap le xs → (bound i : ℕ) (d : E) → i ≤ bound → i < length xs → le (get_or xs 0 d) (get_or xs i d) ≡ true
   root_least xs heap zero i d small lt =
-      equal (λ _. get_or xs 0 d) (ap (λ j. get_or xs j d) (omega arith)) (itself (get_or xs 0 d))
+      let at : i ≡ 0 = omega arith in
+      let least = itself (get_or xs 0 d) in
+      grind arith
   root_least xs heap (suc bound) i d small lt =
       ⊎_elim
-      (λ is. equal (λ _. get_or xs 0 d) (ap (λ j. get_or xs j d) is) (itself (get_or xs 0 d)))
+      (λ is. let least = itself (get_or xs 0 d) in grind arith)
       (λ isnt. laws.transitive _ _ _ (root_least xs heap bound (parent i) d (omega arith) (omega arith)) (heap i d (omega arith) lt))
       (cases_eq i 0)
 

@@ -3,16 +3,11 @@ use Rattle.std.proofs.lemmas.Slice.{overwrites}
 use Rattle.board.specs.Sizes.{area}
 use Rattle.measuring.proofs.measure_group.Goals as goal
 
-pub returns : goal.returns
-returns g c =
+pub returns-clause-fills : goal.returns-clause-fills
+returns-clause-fills g c =
     let part : c.area-area.result - 0 ≡ area c.args.size = omega arith in
     record {
-      bound = c.rank_all.ensures.bound;
-      map_beyond = search (rules, overwrites);
-      entries_beyond = search (rules, overwrites);
-      fills = record {
-        map = λ i. c.rank_all.ensures.map i ++ drop (part i) c.args.map.now;
-        counts = λ i. record { reached = c.rank_all.ensures.reached i; steps = c.rank_all.ensures.steps i };
-        beyond = search (rules, overwrites);
-      };
+      map = λ i. c.rank_all.ensures.map i ++ drop (part i) c.args.map.now;
+      counts = λ i. record { reached = c.rank_all.ensures.reached i; steps = c.rank_all.ensures.steps i };
+      beyond = search (rules, overwrites);
     }

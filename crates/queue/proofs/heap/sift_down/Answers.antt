@@ -15,14 +15,14 @@ loop-hole-preserved g c =
     let told = c.lesser-child.ensures in
     let down : parent k ≡ h = omega (arith, told.beside) in
     let later : h < k = omega (arith, told.beside) in
-    let within : k < length xs = omega (arith, told.beside, inv.0) in
+    let within : k < length xs = omega (arith, told.beside) in
     let value = get_or_read xs k v within c.index-entries-child.is in
-    let least = each_child laws xs h k (λ d. (told.least d).0) (λ d _. (told.least d).1) in (
-      length-set xs h v ∙ inv.0,
-      omega (arith, length-set xs h v),
-      moved_down laws xs h k v later within down value least inv.2,
-      λ x. shuffled_moved xs h v _ k x inv.1 within (omega arith) value (inv.3 x),
-    )
+    let least = each_child laws xs h k (λ d. (told.least d).0) (λ d _. (told.least d).1) in
+    record {
+      within = omega (arith, length-set xs h v);
+      holed = moved_down laws xs h k v later within down value least inv.holed;
+      shuffled = λ x. shuffled_moved xs h v _ k x inv.within within (omega arith) value (inv.shuffled x);
+    }
 
 -- an only child
 pub returns-then-hole-len : goal.returns-then-hole-len
@@ -33,12 +33,12 @@ returns-then-hole-len g c =
     let k = 2 * h + 1 in
     let v = c.index-entries-child-then-hole-len.result in
     let inv = c.loop-hole.invariant in
-    let within : k < length xs = omega (arith, inv.0) in
+    let within : k < length xs = omega arith in
     let value = get_or_read xs k v within c.index-entries-child-then-hole-len.is in
-    let least = each_child laws xs h k (λ d. itself laws (get_or xs k d)) (λ d more. absurd (omega (arith, inv.0))) in
+    let least = each_child laws xs h k (λ d. itself laws (get_or xs k d)) (λ d more. absurd (omega arith)) in
     record {
       within = omega (arith, length-set xs h v);
-      leaf = omega (arith, length-set xs h v, inv.0);
-      holed = moved_down laws xs h k v (omega arith) within (omega arith) value least inv.2;
-      shuffled = λ x. shuffled_moved xs h v _ k x inv.1 within (omega arith) value (inv.3 x);
+      leaf = omega (arith, length-set xs h v);
+      holed = moved_down laws xs h k v (omega arith) within (omega arith) value least inv.holed;
+      shuffled = λ x. shuffled_moved xs h v _ k x inv.within within (omega arith) value (inv.shuffled x);
     }

@@ -14,13 +14,13 @@ loop-hole-preserved g c =
     let v = c.index-entries-parent.result in
     let inv = c.loop-hole.invariant in
     let value = get_or_read xs k v (omega arith) c.index-entries-parent.is in
-    let some = c.loop-hole-test.true in (
-      length-set xs h v ∙ inv.0,
-      omega (arith, length-set xs h v),
-      moved_up laws xs h k v inv.1 some refl value inv.2,
-      below_up laws xs h k v inv.1 some refl value inv.2 c.args.moving (not_before laws v c.args.moving c.if-at_most.ensures),
-      shuffled_moved xs h v _ k c.args.moving inv.1 (omega arith) (omega arith) value inv.4,
-    )
+    let some = c.loop-hole-test.true in
+    record {
+      within = omega (arith, length-set xs h v);
+      holed = moved_up laws xs h k v inv.within some refl value inv.holed;
+      below = below_up laws xs h k v inv.within some refl value inv.holed c.args.moving (not_before laws v c.args.moving c.if-at_most.ensures);
+      shuffled = shuffled_moved xs h v _ k c.args.moving inv.within (omega arith) (omega arith) value inv.shuffled;
+    }
 
 pub returns : goal.returns
 returns g c =
@@ -33,4 +33,4 @@ returns g c =
       | then-loop-hole-test+then-at_most w ↦ λ d some.
           subst (λ y. g.O.Order.le y c.args.moving ≡ true) (get_or_read xs ((h - 1) / 2) w.index-entries-parent.result (omega arith) w.index-entries-parent.is d) (sym w.at_most.ensures ∙ w.if-at_most.true)
     ] in
-    record { ordered = filled g.met.O.Order.lawful xs h c.args.moving inv.1 inv.2 above inv.3; shuffled = inv.4 }
+    record { ordered = filled g.met.O.Order.lawful xs h c.args.moving inv.within inv.holed above inv.below; shuffled = inv.shuffled }

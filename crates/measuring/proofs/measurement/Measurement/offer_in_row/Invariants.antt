@@ -1,17 +1,15 @@
-use Rattle.std.proofs.Common.{◌≡◌, ℕ, ◌+◌, ◌<◌, ◌≤◌, cond, ◌&&◌, eqb, ltb, length}
-use Rattle.board.specs.Sizes.{area}
+use Rattle.std.proofs.Common.{◌≡◌, ◌+◌, ◌≤◌, cond, ◌&&◌, eqb, ltb, length}
 use Rattle.queue.specs.Queues.{queued}
-use Rattle.measuring.specs.Measurements.{board_of, meant}
-use Rattle.measuring.specs.Tracking.{Tracks, View, counted_before, offered_before, offerer}
+use Rattle.measuring.specs.Measurements.{meant}
+use Rattle.measuring.proofs.Places.{Walked}
 use Rattle.measuring.proofs.measurement.Measurement.offer_in_row.Given as goal
 
--- the last two: what is counted and offered before the place
 abbrev pub invariant-loop-column : goal.invariant-loop-column
 invariant-loop-column g l =
-    let m = meant g.G.Length.Length.kind g.G.Gauge.crossing l.self in
-    (length l.map ≡ length l.initial.map) ×
-    (length l.queue.entries.now ≡ length l.initial.queue.entries.now) ×
-    (l.queue.len + l.first + cond (eqb l.row l.from.at.row && ltb l.from.at.column l.column) 1 0 ≤ l.initial.queue.len + l.column) ×
-    (l.steps + l.first + cond (eqb l.row l.from.at.row && ltb l.from.at.column l.column) 1 0 ≤ l.column) ×
-    (counted_before (board_of l.self) l.from.number l.row 0 + l.steps ≡ counted_before (board_of l.self) l.from.number l.row l.column) ×
-    ((view : ℕ → View g.row.G-Length.Denot) → 0 < l.from.pad → Tracks g.G.Length.Length.kind g.G.Length.Length.rows (area l.self.size) (offered_before m (offerer l.from) view l.row 0) l.initial.map (queued l.initial.queue) → Tracks g.G.Length.Length.kind g.G.Length.Length.rows (area l.self.size) (offered_before m (offerer l.from) view l.row l.column) l.map (queued l.queue))
+    let itself = cond (eqb l.row l.from.at.row && ltb l.from.at.column l.column) 1 0 in
+    record {
+      room : length l.queue.entries.now ≡ length l.initial.queue.entries.now;
+      few : l.queue.len + l.first + itself ≤ l.initial.queue.len + l.column;
+      steps : l.steps + l.first + itself ≤ l.column;
+      walked : Walked g.G.Length.Length.rows (meant g.G.Length.Length.kind g.G.Gauge.crossing l.self) l.from l.row 0 l.row l.column l.steps l.initial.map (queued l.initial.queue) l.map (queued l.queue);
+    }

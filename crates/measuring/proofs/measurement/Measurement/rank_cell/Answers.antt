@@ -11,18 +11,13 @@ use Rattle.measuring.proofs.Tracks.{place, tracks_same}
 use Rattle.measuring.proofs.Turns.{offer_alike}
 use Rattle.measuring.proofs.measurement.Measurement.rank_cell.Goals as goal
 
-pub offer_around-requires : goal.offer_around-requires
-offer_around-requires g c =
+pub offer_around-requires-clause-placed : goal.offer_around-requires-clause-placed
+offer_around-requires-clause-placed g c =
     let job = c.args.self.now in
-    let size = job.size in
     let cell = c.args.offer.cell in
     let lt : cell < length job.cells.now = omega (arith, job.within) in
     let read = get_or_default job.cells.now cell _ beyond lt in
-    record {
-      placed = λ k. record { row = cell / size.columns; column = cell % size.columns; height = (read k).height };
-      within = (simp length-set c.requires.within.0, (div_below cell size.columns size.rows size.some_columns c.requires.within.1, mod_below cell size.columns size.some_columns));
-      room = c.requires.room;
-    }
+    λ k. record { row = cell / job.size.columns; column = cell % job.size.columns; height = (read k).height }
 
 pub returns-clause-tracks : goal.returns-clause-tracks
 returns-clause-tracks g c view x waits level t =

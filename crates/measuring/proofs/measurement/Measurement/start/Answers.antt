@@ -12,9 +12,13 @@ loop-number-preserved g c =
     let number = c.loop-number.number in
     let within : number < length job.cells.now = omega (arith, job.within) in
     let pad = ap (λ cell. source_pad cell job.groups.now job.group) (get_or_default job.cells.now number beyond _ within ∙ sym (get_or-take (c.area.result - 0) job.cells.now number _ (omega arith))) ∙ sym c.source_pad-pad.ensures in
-    (search rules, search rules, search rules, c.start_cell.ensures.tracks _ (ap (begun g.G.Length.Length.kind number) pad) c.loop-number.invariant.3)
+    record {
+      few = search rules;
+      room = search rules;
+      tracks = c.start_cell.ensures.tracks _ (ap (begun g.G.Length.Length.kind number) pad) c.loop-number.invariant.tracks;
+    }
 
-pub returns : goal.returns
-returns g c =
+pub returns-clause-tracks : goal.returns-clause-tracks
+returns-clause-tracks g c =
     let all : c.loop-number.number ≡ area c.args.self.now.size = omega arith in
-    record { few = search rules; room = search rules; tracks = rw all at c.loop-number.invariant.3 }
+    rw all at c.loop-number.invariant.tracks

@@ -4,8 +4,8 @@ use Rattle.measuring.specs.Tracking.{Tracks, starting}
 use Rattle.measuring.proofs.measurement.Measurement.start.Given as goal
 
 abbrev pub invariant-loop-number : goal.invariant-loop-number
-invariant-loop-number g l =
-    (length l.map ≡ length l.initial.map) ×
-    (l.queue.len ≤ l.number) ×
-    (length l.queue.entries.now ≡ length l.initial.queue.entries.now) ×
-    Tracks g.G.Length.Length.kind g.G.Length.Length.rows l.number (starting g.G.Length.Length.kind l.self.cells.now l.self.groups.now l.self.group) l.map (queued l.queue)
+invariant-loop-number g l = record {
+  few : l.queue.len ≤ l.number;
+  room : length l.queue.entries.now ≡ length l.initial.queue.entries.now;
+  tracks : Tracks g.G.Length.Length.kind g.G.Length.Length.rows l.number (starting g.G.Length.Length.kind l.self.cells.now l.self.groups.now l.self.group) l.map (queued l.queue);
+}

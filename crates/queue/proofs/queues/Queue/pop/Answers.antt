@@ -1,18 +1,16 @@
-use Rattle.std.proofs.Common.{◌≡◌, ◌+◌, ◌-◌, ◌<◌, ◌≤◌, ◌∷◌, ◌++◌, length, get_or, take, drop, set, Some, sym, refl, ap, ◌∙◌, subst, arith}
+use Rattle.std.proofs.Common.{◌≡◌, ◌+◌, ◌-◌, ◌<◌, ◌≤◌, ◌∷◌, ◌++◌, length, get_or, take, drop, set, Some, sym, refl, ap, ◌∙◌, subst, arith, rules}
 use Rattle.std.specs.List.Sorted.{IsPermutation}
 use Rattle.std.proofs.lemmas.List.{length-take-le}
+use Rattle.std.proofs.lemmas.Slice.{overwrites}
 use Rattle.queue.specs.Queues.{Pops}
-use Rattle.queue.proofs.Parts.{part_is, rest_is, room_is, holed_front, popped_off, last_off, least_of}
+use Rattle.queue.proofs.Parts.{holed_part, popped_off, last_off, least_of}
 use Rattle.queue.proofs.queues.Queue.pop.Goals as goal
 use Rattle.queue.proofs.queues.Queue.pop.Goals.{then-len-gt0, else-len-gt0}
 
-pub replace_first-requires : goal.replace_first-requires
-replace_first-requires g c =
+pub replace_first-requires-clause-holed : goal.replace_first-requires-clause-holed
+replace_first-requires-clause-holed g c =
     let q = c.args.self.now in
-    record {
-      some = omega (arith, q.within, length-take-le (q.len - 1 - 0) q.entries.now (omega (arith, q.within)));
-      holed = holed_front q.entries.now q.len (q.len - 1 - 0) (omega arith) q.within q.ordered;
-    }
+    holed_part q.entries.now q.len (q.len - 1 - 0) 0 (omega (arith, q.within)) q.within (λ i lt _. omega arith) (λ some. omega arith) q.ordered
 
 -- both ways: with entries left to sift, and with the last one out
 pub returns : goal.returns
@@ -34,19 +32,16 @@ returns g c =
           let ys = w.replace_first.new.entries in
           let last = w.index-self-len in
           let less : k - 0 ≡ k = omega arith in
-          let within : k ≤ length xs = omega (arith, q.within) in
-          let long : length ys ≡ k = w.replace_first.auto.entries ∙ length-take-le (k - 0) xs (omega arith) ∙ less in
-          let new : ys ++ drop k xs ≡ ys ++ drop (k - 0) xs = ap (λ j. ys ++ drop j xs) (sym less) in
-          let part : take k (ys ++ drop (k - 0) xs) ≡ ys = ap (take k) (sym new) ∙ part_is xs ys k within long in
-          let room : length (ys ++ drop (k - 0) xs) ≡ length xs = ap length (sym new) ∙ room_is xs ys k within long in
+          let long : length ys ≡ k = omega (arith, w.replace_first.auto.entries, length-take-le (k - 0) xs (omega (arith, q.within))) in
+          let part : take k (ys ++ drop (k - 0) xs) ≡ ys = search (rules, overwrites) in
           let sifted = subst (λ j. IsPermutation (set (take j xs) 0 (get_or xs k last.result)) ys) less w.replace_first.ensures.shuffled in
           let off = popped_off xs ys n k first back q.within is last.result last.is w.if-len-gt0.true
           (subst (λ y. IsPermutation (set (take k xs) 0 y) ys) (sym last.is) sifted) in
           subst (λ q'. Pops le q q' (Some first)) (sym w.self-is) (record {
             len = refl;
             taken = (some, subst (λ l. IsPermutation (take n xs) (first ∷ l)) (sym part) off, least);
-            beyond = ap (drop k) (sym new) ∙ rest_is xs ys k within long;
-            room = room;
+            beyond = search (rules, overwrites);
+            room = search (rules, overwrites);
           })
       | else-len-gt0 w ↦
           let none : k ≡ 0 = omega (arith, w.if-len-gt0.false) in
