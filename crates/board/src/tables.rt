@@ -54,5 +54,6 @@ pub fn fill_front<T: Copy>(table: &mut [T], count: usize, value: T)
     requires { count ≤ length table.old }
     ensures { table.new ≡ replicate count value ++ drop count table.old }
 {
+    // `fill` clones, and that a copy's clone cannot fail is not known of every `T`.
     table[..count].fill_with(|| value);
 }

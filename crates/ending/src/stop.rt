@@ -32,7 +32,7 @@ impl From<Refusal> for Stop {
     }
 }
 
-// The gauge that a layer could not be laid over goes.
+// The gauge is dropped; only the refusal is kept.
 impl<G: Drop> From<SentBack<G>> for Stop {
     ghost from_gives = { λ back end. end ≡ stop.Refused back.refusal };
 

@@ -202,30 +202,24 @@ mod tests {
         let mut upper = Rectangles::new();
         assert_eq!(rt; upper.add(rectangle(0, 3, 255)), Ok(()));
         let open = Fence::new(WholeRuler(Chessboard), Rectangles::new());
-        let Ok(weighted) = Weighting::new(open, 16) else {
-            return Err(Fail::new("16 is in range"));
-        };
+        let weighted = Weighting::new(open, 16).map_err(|back| back.refusal)?;
         assert_eq!(rt; units_by(&weighted, rising(5, true)), Some(96));
         assert_eq!(rt; carried_by(&weighted, rising(5, true), 4), Some(100));
-        let Ok(barred) = Weighting::new(Fence::new(WholeRuler(Chessboard), upper), 2) else {
-            return Err(Fail::new("2 is in range"));
-        };
+        let barred = Weighting::new(Fence::new(WholeRuler(Chessboard), upper), 2).map_err(
+            |back| back.refusal,
+        )?;
         assert_eq!(rt;
             units_by(&barred, rising(5, false)),
             None,
             "one end in the fence"
         );
-        let Ok(wall) = Weighting::new(Fence::new(Wall, Rectangles::new()), 3) else {
-            return Err(Fail::new("3 is in range"));
-        };
+        let wall = Weighting::new(Fence::new(Wall, Rectangles::new()), 3).map_err(
+            |back| back.refusal,
+        )?;
         assert_eq!(rt; carried_by(&wall, rising(0, true), 7), None);
-        let Ok(level) = Weighting::new(Fence::new(Level, upper), 3) else {
-            return Err(Fail::new("3 is in range"));
-        };
+        let level = Weighting::new(Fence::new(Level, upper), 3).map_err(|back| back.refusal)?;
         assert_eq!(rt; carried_by(&level, lower(9), 7), Some(7));
-        let Ok(terrace) = Weighting::new(Fence::new(Terrace, upper), 4) else {
-            return Err(Fail::new("4 is in range"));
-        };
+        let terrace = Weighting::new(Fence::new(Terrace, upper), 4).map_err(|back| back.refusal)?;
         assert_eq!(rt; units_by(&terrace, lower(0)), Some(4));
         assert_eq!(rt; units_by(&terrace, lower(1)), None);
         assert_eq!(rt; units_by(&terrace, rising(0, true)), None, "in the fence");

@@ -38,7 +38,7 @@ impl<G: Gauge> Gauge for Weighting<G> {
     ghost lawful = { λ w. weighted_lawful G.Length.Length.lawful w.factor (G.Gauge.crossing w.gauge) (G.Gauge.lawful w.gauge) };
 
     fn carry(&self, step: Step, length: G::Length) -> Option<G::Length> {
-        // As plain as `try_fold`, which `search` does not see through.
+        // With `try_fold` the proof did not close, nor with `fold` in `span`.
         let mut carried = length;
         for _ in 0..self.factor {
             carried = self.gauge.carry(step, carried)?;

@@ -107,7 +107,8 @@ impl<'a, G: Gauge> Measurement<'a, G> {
         1
     }
 
-    // Offers a cell's length to its open neighbours in one row, and counts them. It goes over numbers of columns, which no list holds.
+    // Offers a cell's length to its open neighbours in one row, and counts them.
+    // As a chain over the columns its closure would write to the map and to the queue: no plainer, here and in `offer_around`.
     fn offer_in_row<'q>(
         &self,
         from: Offerer<G::Length>,

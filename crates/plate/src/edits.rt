@@ -93,6 +93,7 @@ impl Draft {
         if pad == 0 || pad > 64 {
             return Err(Refusal::Pad);
         }
+        // 0 is allowed here, so this is no `Group`.
         if group > 2 {
             return Err(Refusal::Group);
         }

@@ -3,8 +3,8 @@ ghost use Rattle.std.specs.Prelude.{◌≡◌};
 
 use board::Size;
 
-// The plate's size, and for each group whether its map was measured after the last accepted edit. It is never copied, so
-// that no second header can call an old map current.
+// The plate's size, and for each group whether its map was measured after the last accepted edit: two flags with names, as plain as an
+// enum of four states. It is never copied, so that no second header can call an old map current.
 #[derive(Drop)]
 pub struct Header {
     pub(crate) size: Size,

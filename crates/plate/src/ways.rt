@@ -15,7 +15,8 @@ fn link_at<K: Length>(map: &[MapRecord<K::Row>], cell: u16) -> Option<u16>
     Some(here.link)
 }
 
-// How many cells the way from a cell has, or none where its links are torn. It has no more than the map has records.
+// How many cells the way from a cell has, or none where its links are torn. It has no more than the map has records,
+// and the range says only that.
 fn way_length<K: Length>(map: &[MapRecord<K::Row>], start: u16) -> Option<usize>
     ensures { MatchOption result (way_on K.Length.kind K.Length.rows map.now start ≡ None) (λ n. (cells : List ℕ) × (way_on K.Length.kind K.Length.rows map.now start ≡ Some cells) × (length cells ≡ n)) }
 {

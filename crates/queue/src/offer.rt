@@ -29,6 +29,7 @@ impl<K: Length> Order for ByLength<K> {
     ghost lawful = { offer_laws K.Length.lawful };
 
     fn at_most(a: Offer<K::Row>, b: Offer<K::Row>) -> bool {
+        // Without branches: measuring takes a third longer with them. The rows have another order than the lengths.
         let first = K::decode(a.length);
         let second = K::decode(b.length);
         let shorter = first.at_most(second);

@@ -5,7 +5,7 @@ ghost use Rattle.queue.specs.Heaps.{Heap};
 use crate::{Order, replace_first, sift_up};
 use std::marker::PhantomData;
 
-// A priority queue in the front part of a lent slice, which is a heap.
+// A priority queue in the front part of a lent slice, which is a heap. It takes no memory of its own, so the part's length stands beside it.
 #[derive(Drop)]
 pub struct Queue<'a, E, O: Order<Entry = E>> {
     entries: &'a mut [E],

@@ -194,21 +194,21 @@ mod tests {
 
     // The readings of one map's cells of row 0, under what is said of them.
     #[derive(Drop)]
-    struct Row<'a, A> {
+    struct RowReadings<'a, A> {
         rt: &'a A,
         what: &'a str,
         draft: &'a Draft,
         map: &'a [MapRecord<u64>],
     }
 
-    impl<'a, A: Abort> Row<'a, A> {
+    impl<'a, A: Abort> RowReadings<'a, A> {
         fn new(
             rt: &'a A,
             what: &'a str,
             draft: &'a Draft,
             map: &'a [MapRecord<u64>],
-        ) -> Row<'a, A> {
-            Row {
+        ) -> RowReadings<'a, A> {
+            RowReadings {
                 rt,
                 what,
                 draft,
@@ -370,7 +370,7 @@ mod tests {
         check_counted(&rt, "counted", hill, counted)?;
         let mut draft = open(STRIP)?;
         let map = measure(&mut draft, &cells, &pad_groups(1, 2), 1)?;
-        let row = Row::new(&rt, what, &draft, &map);
+        let row = RowReadings::new(&rt, what, &draft, &map);
         row.check_way(2, &mut [BLANK; 5], Ok(3), &[2, 1, 0]);
         assert_eq!(rt; distance(&draft, &map, 2, 1), Ok(Some(12)));
         Ok(())
@@ -392,7 +392,7 @@ mod tests {
         check_whole(&rt, what, &BY_CHESSBOARD, wall, none)?;
         let mut draft = open(STRIP)?;
         let map = measure(&mut draft, &cells, &pad_groups(1, 2), 1)?;
-        let row = Row::new(&rt, what, &draft, &map);
+        let row = RowReadings::new(&rt, what, &draft, &map);
         row.check_way(2, &mut [BLANK; 4], Ok(0), &[]);
         row.check_way(2, &mut [], Ok(0), &[]);
         assert_eq!(rt; draft.nearest::<Whole>(&map, 0, 2, 1), Ok(None));
@@ -408,10 +408,10 @@ mod tests {
         let map = measure(&mut draft, &cells, &pad_groups(1, 1), 1)?;
         assert_eq!(rt; draft.nearest::<Whole>(&map, 0, 1, 1), Ok(Some(1)));
         assert_eq!(rt; distance(&draft, &map, 1, 1), Ok(Some(1)));
-        let row = Row::new(&rt, "ways need their lists", &draft, &map);
+        let row = RowReadings::new(&rt, "ways need their lists", &draft, &map);
         row.check_way(1, &mut [BLANK; 2], Ok(2), &[1, 0]);
         row.check_way(1, &mut [BLANK; 1], Err(Refusal::Short), &[]);
-        let source = Row::new(&rt, "a source", &draft, &map);
+        let source = RowReadings::new(&rt, "a source", &draft, &map);
         source.check_way(2, &mut [BLANK; 1], Ok(1), &[2]);
         Ok(())
     }
@@ -424,16 +424,16 @@ mod tests {
         let measured = measure(&mut draft, &cells, &pad_groups(1, 2), 1)?;
         let mut map = measured;
         map[1].link = 3;
-        Row::new(&rt, "a link off the plate", &draft, &map).check_torn(2);
+        RowReadings::new(&rt, "a link off the plate", &draft, &map).check_torn(2);
         map[1].link = 65535;
-        Row::new(&rt, "a link off the map", &draft, &map).check_torn(1);
+        RowReadings::new(&rt, "a link off the map", &draft, &map).check_torn(1);
         map = measured;
         map[0].link = 2;
-        Row::new(&rt, "a ring of links", &draft, &map).check_torn(1);
+        RowReadings::new(&rt, "a ring of links", &draft, &map).check_torn(1);
         map = measured;
         map[0].reached = false;
-        Row::new(&rt, "a link to an unreached cell", &draft, &map).check_torn(2);
-        Row::new(&rt, "tampered maps are torn", &draft, &map).check_way(
+        RowReadings::new(&rt, "a link to an unreached cell", &draft, &map).check_torn(2);
+        RowReadings::new(&rt, "tampered maps are torn", &draft, &map).check_way(
             0,
             &mut [BLANK; 4],
             Ok(0),
@@ -455,10 +455,18 @@ mod tests {
         let mut draft = Draft::open(1, 3, &mut cells, &mut groups)?;
         draft.set(&mut cells, 0, 0, 0, 1)?;
         draft.enrol(&mut groups, 1, 1)?;
-        Row::new(&rt, "not yet measured", &draft, &[OLD; 3]).check_refused(0, 1, Refusal::Outdated);
+        RowReadings::new(&rt, "not yet measured", &draft, &[OLD; 3]).check_refused(
+            0,
+            1,
+            Refusal::Outdated,
+        );
         let first = measure(&mut draft, &cells, &groups, 1)?;
         assert_eq!(rt; distance(&draft, &first[0..3], 2, 1), Ok(Some(2)));
-        Row::new(&rt, "the other group", &draft, &first).check_refused(0, 2, Refusal::Outdated);
+        RowReadings::new(&rt, "the other group", &draft, &first).check_refused(
+            0,
+            2,
+            Refusal::Outdated,
+        );
         check_apart(
             &rt,
             "one group alone",
@@ -467,10 +475,10 @@ mod tests {
             &first,
             Refusal::Outdated,
         );
-        Row::new(&rt, what, &draft, &first[0..2]).check_refused(3, 0, Refusal::Tables);
-        Row::new(&rt, what, &draft, &first).check_refused(3, 0, Refusal::Off);
-        Row::new(&rt, what, &draft, &first).check_refused(2, 0, Refusal::Group);
-        Row::new(&rt, what, &draft, &first).check_refused(2, 3, Refusal::Group);
+        RowReadings::new(&rt, what, &draft, &first[0..2]).check_refused(3, 0, Refusal::Tables);
+        RowReadings::new(&rt, what, &draft, &first).check_refused(3, 0, Refusal::Off);
+        RowReadings::new(&rt, what, &draft, &first).check_refused(2, 0, Refusal::Group);
+        RowReadings::new(&rt, what, &draft, &first).check_refused(2, 3, Refusal::Group);
         let second = measure(&mut draft, &cells, &groups, 2)?;
         check_apart(&rt, what, &draft, &first[0..2], &second, Refusal::Tables);
         check_apart(&rt, what, &draft, &first, &second[0..2], Refusal::Tables);
@@ -479,9 +487,9 @@ mod tests {
             draft.route(&BY_CHESSBOARD, &first, &second, &mut marks),
             Err(Refusal::Tables)
         );
-        assert!(rt; marks[0] == 7 && marks[1] == 7);
+        assert_eq!(rt; marks, [7; 2]);
         draft.bar(&mut cells, 0, 1)?;
-        Row::new(&rt, "an edit", &draft, &first).check_refused(2, 1, Refusal::Outdated);
+        RowReadings::new(&rt, "an edit", &draft, &first).check_refused(2, 1, Refusal::Outdated);
         check_apart(&rt, what, &draft, &first, &second, Refusal::Outdated);
         Ok(())
     }

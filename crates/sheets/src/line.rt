@@ -12,7 +12,7 @@ pub(crate) fn split_once(bytes: &[u8], byte: u8) -> Option<(&[u8], &[u8])>
     Some((&bytes[..at], &bytes[at + 1..]))
 }
 
-// A line without its end: what is left of it, and where the field stands that was read last.
+// A line without its end: what is left of it, and where the field stands that is read, 0 at first.
 #[derive(Drop)]
 pub(crate) struct Line<'a> {
     rest: &'a [u8],
