@@ -29,6 +29,20 @@ impl<'a, E: Copy, O: Order<Entry = E>> Queue<'a, E, O> {
         }
     }
 
+    // The same entries in the same places by another order, by which they have to be a heap, as no entry or one is by any.
+    pub fn reordered<P: Order<Entry = E>>(self) -> Queue<'a, E, P>
+        requires { Heap P.Order.le (take self.len self.entries.now) }
+        ensures len { result.len ≡ self.entry.len }
+        ensures entries { result.entries.now ≡ self.entry.entries.now }
+    {
+        let Queue { entries, len, .. } = self;
+        Queue {
+            entries,
+            len,
+            order: PhantomData,
+        }
+    }
+
     pub fn len(&self) -> usize
         ensures { result ≡ self.now.len }
     {
