@@ -131,18 +131,13 @@ module _ (b : Board) (i : ℕ) where
 pub offered_one : {L : Type 0} (m : Measuring L) (x : Bid L) (view : ℕ → View L) (row column : ℕ) (o : Option (Bid L)) → column < m.board.size.columns → o ≡ offer m x (row * m.board.size.columns + column) → (j : ℕ) → updated (offered_before m x view row column) (row * m.board.size.columns + column) (raised m.kind (offered_before m x view row column (row * m.board.size.columns + column)) o) j ≡ offered_before m x view row (column + 1) j
 offered_one m x view row column o within made j =
     let size = m.board.size in
-    let number = row * size.columns + column in
     ⊎_elim
     (λ is.
-    ap (updated (offered_before m x view row column) number _) is ∙
-    updated_here (offered_before m x view row column) number _ ∙
-    (λ k. raised m.kind (cond-false (before size row column number) (raised m.kind (view number) (offer m x number)) (view number) (before_not_here size row column within) k) (made k)) ∙
-    sym (cond-true (before size row (column + 1) number) _ _ (before_then size row column within)) ∙
-    ap (offered_before m x view row (column + 1)) (sym is))
-    (λ other.
-    sym (updated_other (offered_before m x view row column) number _ j other) ∙
-    ap (λ t. cond t (raised m.kind (view j) (offer m x j)) (view j)) (sym (before_other size row column j within other)))
-    (cases_eq j number)
+    let not-yet = before_not_here size row column within in
+    let then = before_then size row column within in
+    grind (arith, nat_tests))
+    (λ other. let same = before_other size row column j within other in grind (arith, nat_tests))
+    (cases_eq j (row * size.columns + column))
 
 -- the place beside a cell: it is an open neighbour unless it is the cell itself or barred
 module _ (b : Board) (i row column : ℕ) (within : column < b.size.columns) where

@@ -5,6 +5,7 @@ use mathlib.Core.List.Memᴰ.{tail as later}
 use mathlib.Core.List.{Memᴰ as Among}
 use Rattle.std.specs.List.{AllByRecursion}
 use Rattle.std.proofs.lemmas.Bool.{cases_Bool, cases_eq, both_ways, eqb-false, eq-eqb, ne_eqb, or_left, cond-true, cond-false, cond_both}
+use Rattle.std.proofs.lemmas.Bool.Decides.{nat_tests}
 use Rattle.std.proofs.ByRecursion.{All-weaker}
 use Rattle.board.specs.Sizes.{area}
 use Rattle.lengths.specs.Kinds.{Kind, Rows, KindLaws}
@@ -19,7 +20,7 @@ option_cases None = inl refl
 option_cases (Some x) = inr (x, refl)
 
 pub some_or_none : {A B : Type 0} {o : Option A} {x : A} → o ≡ Some x → o ≡ None → B
-some_or_none p q = let z : ◌≡◌ {A = ℕ} 0 1 = cc in absurd (omega arith)
+some_or_none p q = absurd (grind arith)
 
 pub same_some : {A : Type 0} {o : Option A} {x y : A} → o ≡ Some x → o ≡ Some y → x ≡ y
 same_some p q = cc
@@ -42,11 +43,7 @@ shorter_either kind (Some a) (Some b) e = ⊎_elim (λ w. inl w.1) (λ w. inr w.
 pub shorter_none : {L : Type 0} (kind : Kind L) (x y : Option (Bid L)) → shorter kind x y ≡ None → (x ≡ None) × (y ≡ None)
 shorter_none kind x None e = (e, refl)
 shorter_none kind None (Some b) e = some_or_none refl e
-shorter_none kind (Some a) (Some b) e =
-    ⊎_elim
-    (λ t. some_or_none (cond-true _ (Some a) (Some b) t) e)
-    (λ f. some_or_none (cond-false _ (Some a) (Some b) f) e)
-    (cases_Bool (kind.le a.length b.length))
+shorter_none kind (Some a) (Some b) e = absurd (grind (arith, nat_tests))
 
 module _ {L R : Type 0} {kind : Kind L} {rows : Rows L R} (laws : KindLaws kind rows) where
   pub le_itself : (a : L) → kind.le a a ≡ true
@@ -62,37 +59,24 @@ module _ {L R : Type 0} {kind : Kind L} {rows : Rows L R} (laws : KindLaws kind 
   shorter_of_first x None e is = le_same (ap (λ b. b.length) (same_some e is))
   shorter_of_first None (Some b) e is = some_or_none is refl
   shorter_of_first (Some c) (Some b) {a} {r} e is =
-      let first : c ≡ a = same_some refl is in
-      ⊎_elim
-      (λ w. le_same (ap (λ b. b.length) (same_some w.1 is)))
-      (λ w.
-      let second : b ≡ r = same_some refl w.1 in
-      (λ i. kind.le (sym second i).length (sym first i).length) ∙ le_since_not _ _ w.0)
-      (cond_some (kind.le c.length b.length) (Some c) (Some b) e)
+      let itself = le_itself c.length in
+      let either = laws.total c.length b.length in
+      grind (arith, nat_tests)
 
   pub shorter_of_second : (x y : Option (Bid L)) {b r : Bid L} → shorter kind x y ≡ Some r → y ≡ Some b → kind.le r.length b.length ≡ true
   shorter_of_second x None e is = some_or_none is refl
   shorter_of_second None (Some d) e is = le_same (ap (λ b. b.length) (same_some e is))
   shorter_of_second (Some a) (Some d) {b} {r} e is =
-      let second : d ≡ b = same_some refl is in
-      ⊎_elim
-      (λ w.
-      let first : a ≡ r = same_some refl w.1 in
-      (λ i. kind.le (sym first i).length (sym second i).length) ∙ w.0)
-      (λ w. le_same (ap (λ b. b.length) (same_some w.1 is)))
-      (cond_some (kind.le a.length d.length) (Some a) (Some d) e)
+      let itself = le_itself d.length in
+      grind (arith, nat_tests)
 
   -- of equals the first
   shorter_of_equals : (x y : Option (Bid L)) {a r : Bid L} → shorter kind x y ≡ Some r → x ≡ Some a → a.length ≡ r.length → r ≡ a
   shorter_of_equals x None e is same = same_some e is
   shorter_of_equals None (Some b) e is same = some_or_none is refl
   shorter_of_equals (Some c) (Some b) e is same =
-      ⊎_elim
-      (λ w. same_some w.1 is)
-      (λ w.
-      let level : c.length ≡ b.length = ap (λ d. d.length) (same_some refl is) ∙ same ∙ ap (λ d. d.length) (same_some w.1 refl) in
-      absurd (both_ways _ w.0 (le_same level)))
-      (cond_some (kind.le c.length b.length) (Some c) (Some b) e)
+      let itself = le_itself c.length in
+      grind (arith, nat_tests)
 
 module _ {L : Type 0} (m : Measuring L) where
   pub start_is : (j : ℕ) {x : Bid L} → start m j ≡ Some x → (0 < source_of m.board m.group j) × (x ≡ record { cell = j; length = m.kind.zero; pad = source_of m.board m.group j; link = j })
@@ -246,8 +230,8 @@ ranked_many (r ∷ rs) n within apart =
       arith,
       ranked_many rs n within.1 apart.1,
       how_many_one_more (is_ranked (r ∷ rs)) (is_ranked rs) n r.cell within.0 apart.0
-          (or_left _ (is_ranked rs r.cell) (eq-eqb r.cell r.cell refl))
-          (λ j lt isnt. ap (λ b. b || is_ranked rs j) (ne_eqb r.cell j (λ e. isnt (sym e)))),
+          (grind (arith, nat_tests))
+          (λ j lt isnt. grind (arith, nat_tests)),
     )
 
 module _ {L : Type 0} {m : Measuring L} where

@@ -4,8 +4,9 @@ use Rattle.std.specs.List.{ContainsAt, AllByRecursion}
 use Rattle.std.specs.List.Sorted.{IsPermutation}
 use Rattle.std.proofs.ByRecursion.{All-weaker, all_shuffled, has_append_right, has_get_or, has_shuffled}
 use Rattle.std.proofs.lemmas.List.{get_or-set_same, get_or-set_other}
+use Rattle.std.proofs.lemmas.Grind.{get_or-set_at}
 use Rattle.std.proofs.lemmas.Bool.{and_cases, and_parts, cases_eq, both_ways, cond-true, cond-false, eq-eqb, eqb-true, lt-ltb, ne_eqb, not-false}
-use Rattle.std.proofs.lemmas.Bool.Decides.{when_true}
+use Rattle.std.proofs.lemmas.Bool.Decides.{nat_tests, when_true}
 use Rattle.board.specs.declared.record.MapRecord.{MapRecord}
 use Rattle.lengths.specs.Kinds.{Kind, Rows, KindLaws}
 use Rattle.queue.specs.Queues.{Pushes, queued}
@@ -53,7 +54,7 @@ module _ {L R : Type 0} {kind : Kind L} {rows : Rows L R} where
   put {view = view} {view' = view'} {map = map} i t within elsewhere here kept owed = record {
     records = λ j d lt.
         ⊎_elim
-        (λ is. subst (λ k. get_or (set map i (shown kind rows (view' i))) k d ≡ shown kind rows (view' k)) (sym is) (get_or-set_same map i _ d within))
+        (λ is. grind (arith, get_or-set_at))
         (λ other.
         let old = elsewhere j lt other in
         get_or-set_other map i j _ d other ∙ t.records j d old.0 ∙ ap (shown kind rows) old.1)
@@ -82,7 +83,7 @@ module _ {L R : Type 0} {kind : Kind L} {rows : Rows L R} where
       here
       (put e.cell t within
       (λ j lt other. (lt, updated_other view e.cell (placed k x) j other))
-      (λ y is. let z : ◌≡◌ {A = ℕ} 0 1 = cc in absurd (omega arith))
+      (λ y is. grind arith)
       (λ f other had. ⊎_elim (λ same. absurd (other (ap (λ a. a.cell) (sym same)))) (λ kept. kept) (has_cases e es had))
       (All-weaker _ _ (λ f w. (
         w.0,
@@ -102,8 +103,7 @@ module _ {L R : Type 0} {kind : Kind L} {rows : Rows L R} where
         (λ same.
         let cell : e.cell ≡ j = ap (λ a. a.cell) same ∙ (t.named j y lt is).0 in
         let waits : view e.cell ≡ waiting y = ap view cell ∙ is in
-        let z : ◌≡◌ {A = ℕ} 0 1 = cc in
-        absurd (omega arith))
+        grind arith)
         (λ kept. kept)
         (has_cases e es (t.queues j y lt is));
     owed = t.owed.1;
@@ -135,21 +135,23 @@ module _ {L R : Type 0} {kind : Kind L} {rows : Rows L R} (laws : KindLaws kind 
   pub offer_stays : (v : View L) (x : Bid L) → keeps kind rows (shown kind rows v) x.length ≡ true → raised kind v (Some x) ≡ v
   offer_stays unknown x kept = absurd (both_ways false refl kept)
   offer_stays (waiting y) x kept =
-      cond-true (kind.le y.length x.length) _ _ (ap (λ a. kind.le a x.length) (sym (laws.same y.length)) ∙ (and_parts _ _ kept).1)
+      let same = laws.same y.length in
+      grind (arith, nat_tests)
   offer_stays (placed k y) x kept = refl
 
   -- where it is not, the offer is better
   pub offer_better : (v : View L) (x : Bid L) → ((y : Bid L) → v ≡ waiting y → 0 < y.pad) → keeps kind rows (shown kind rows v) x.length ≡ false → (raised kind v (Some x) ≡ waiting x) × ((e : Offer R) → Owed kind rows v e → Owed kind rows (waiting x) e)
   offer_better unknown x pads gone = (refl, λ e none. absurd none)
   offer_better (waiting y) x pads gone =
-      let bare : (not (eqb y.pad 0) ≡ false) → ⊥ = λ e. omega (arith, eqb-true y.pad 0 (not-false _ e), pads y refl) in
-      let longer : kind.le y.length x.length ≡ false = ap (λ a. kind.le a x.length) (sym (laws.same y.length)) ∙ ⊎_elim (λ e. absurd (bare e)) (λ e. e) (and_cases _ _ gone) in
+      let pad = pads y refl in
+      let same = laws.same y.length in
+      let longer : kind.le y.length x.length ≡ false = grind (arith, nat_tests) in
       (cond-false (kind.le y.length x.length) _ _ longer, λ e le. laws.transitive _ _ _ (le_since_not laws _ _ longer) le)
   offer_better (placed k y) x pads gone = absurd (both_ways true gone refl)
 
   unraised : {n : ℕ} {view : ℕ → View L} {map : List (MapRecord R)} {es : List (Offer R)} (i : ℕ) (v : View L) → Tracks kind rows n view map es → v ≡ view i → Tracks kind rows n (updated view i v) map es
   unraised {view = view} i v t same =
-      tracks_same (λ j lt. ⊎_elim (λ is. ap view is ∙ sym same ∙ sym (updated_here view i v) ∙ ap (updated view i v) (sym is)) (updated_other view i v j) (cases_eq j i)) t
+      tracks_same (λ j lt. ⊎_elim (λ is. grind (arith, nat_tests)) (updated_other view i v j) (cases_eq j i)) t
 
   -- an offer across a barred step, one that is not put down, and one that is
   pub offer_none : {n : ℕ} {view : ℕ → View L} {map : List (MapRecord R)} {es : List (Offer R)} (i : ℕ) (o : Option (Bid L)) → Tracks kind rows n view map es → o ≡ None → Tracks kind rows n (updated view i (raised kind (view i) o)) map es
@@ -177,7 +179,7 @@ module _ {L R : Type 0} {kind : Kind L} {rows : Rows L R} (laws : KindLaws kind 
       none
       (put i t within
       (λ j lt other. (omega arith, refl))
-      (λ x is. let z : ◌≡◌ {A = ℕ} 0 1 = cc in absurd (omega arith))
+      (λ x is. grind arith)
       (λ e _ had. had)
       (All-weaker _ _ (λ e w. (omega (arith, w.0), w.1)) es t.owed))
 

@@ -6,6 +6,7 @@ use Rattle.std.proofs.lemmas.List.FromFn.{fill_by_all}
 use Rattle.std.proofs.ByRecursion.{all-has, all_shuffled, has_get_or}
 use Rattle.std.proofs.lemmas.List.Sums.{sum_by-cons}
 use Rattle.std.proofs.lemmas.Bool.{and_parts, both_ways, cases_Bool, cases_eq, cond-false, cond-true, eq-eqb, leb-true, lt-ltb, ne_eqb, not-true, or_cases, or_parts}
+use Rattle.std.proofs.lemmas.Bool.Decides.{nat_tests}
 use Rattle.board.specs.Records.{unreached_record}
 use Rattle.board.specs.Sizes.{area}
 use Rattle.board.specs.declared.record.MapRecord.{MapRecord}
@@ -45,9 +46,9 @@ module _ {L : Type 0} (m : Measuring L) where
   standing_unranked [] j unranked = refl
   standing_unranked (r ∷ rs) j unranked =
       let parts = or_parts (eqb r.cell j) (is_ranked rs j) unranked in
-      cond-false (eqb r.cell j) _ _ parts.0 ∙
-      ap (λ v. raised m.kind v (offer m r j)) (standing_unranked rs j parts.1) ∙
-      raised_view m.kind (best m rs j) (offer m r j)
+      let before = standing_unranked rs j parts.1 in
+      let view = raised_view m.kind (best m rs j) (offer m r j) in
+      grind (arith, nat_tests)
 
   -- a ranked cell is placed, and its record is the map's
   pub standing_ranked : {R : Type 0} (rows : Rows L R) (rs : List (Bid L)) (j : ℕ) → is_ranked rs j ≡ true → (k : ℕ) × (x : Bid L) × (standing m rs j ≡ placed k x) × (record_at m.kind rows rs j ≡ shown m.kind rows (placed k x))
@@ -69,8 +70,8 @@ module _ {L : Type 0} (m : Measuring L) where
   unfolding is_ranked record_at
   record_unranked rows [] j isnt = refl
   record_unranked rows (r ∷ rs) j isnt =
-      let parts = or_parts (eqb r.cell j) (is_ranked rs j) isnt in
-      cond-false (eqb r.cell j) _ _ parts.0 ∙ record_unranked rows rs j parts.1
+      let before = record_unranked rows rs j (or_parts (eqb r.cell j) (is_ranked rs j) isnt).1 in
+      grind (arith, nat_tests)
 
   -- where no offer is left, the records are the map's
   pub shown_record : {R : Type 0} (rows : Rows L R) (rs : List (Bid L)) (j : ℕ) → (is_ranked rs j ≡ false → best m rs j ≡ None) → shown m.kind rows (standing m rs j) ≡ record_at m.kind rows rs j
@@ -84,16 +85,8 @@ module _ {L : Type 0} (m : Measuring L) where
   pub standing_more : (rs : List (Bid L)) (x : Bid L) (i k : ℕ) → x.cell ≡ i → length rs ≡ k → (j : ℕ) → raised m.kind (updated (standing m rs) i (placed k x) j) (offer m x j) ≡ standing m (x ∷ rs) j
   unfolding standing
   standing_more rs x i k named many j =
-      ⊎_elim
-      (λ is.
-      ap (λ v. raised m.kind v (offer m x j)) (ap (updated (standing m rs) i (placed k x)) is ∙ updated_here (standing m rs) i (placed k x)) ∙
-      raised_placed m.kind k x (offer m x j) ∙
-      ap (λ n. placed n x) (sym many) ∙
-      sym (cond-true (eqb x.cell j) _ _ (eq-eqb x.cell j (named ∙ sym is))))
-      (λ other.
-      ap (λ v. raised m.kind v (offer m x j)) (sym (updated_other (standing m rs) i (placed k x) j other)) ∙
-      sym (cond-false (eqb x.cell j) _ _ (ne_eqb x.cell j (λ e. other (sym e ∙ named)))))
-      (cases_eq j i)
+      let stays = raised_placed m.kind k x (offer m x j) in
+      ⊎_elim (λ is. grind (arith, nat_tests)) (λ other. grind (arith, nat_tests)) (cases_eq j i)
 
 module _ {L R : Type 0} (m : Measuring L) {rows : Rows L R} (laws : KindLaws m.kind rows) where
   -- the least entry of an unranked cell is its best offer, and that cell is the next
@@ -104,10 +97,10 @@ module _ {L R : Type 0} (m : Measuring L) {rows : Rows L R} (laws : KindLaws m.k
       let above : (j : ℕ) (y : Bid L) → j < area m.board.size → standing m rs j ≡ waiting y → offer_le m.kind rows e (entry rows y) ≡ true = λ j y lt is. all-has _ es (entry rows y) least (t.queues j y lt is) in
       let shorter-than : (y : Bid L) → offer_le m.kind rows e (entry rows y) ≡ true → m.kind.le (rows.decode e.length) y.length ≡ true = λ y is. ap (λ a. m.kind.le (rows.decode e.length) a) (sym (laws.same y.length)) ∙ (and_parts _ _ is).0 in
       let level : rows.decode e.length ≡ x.length = laws.equal _ _ (shorter-than x (above e.cell x mine.0 waits)) (subst (λ v. Owed m.kind rows v e) waits mine.1) in
-      let unranked : is_ranked rs e.cell ≡ false = ⊎_elim (λ is. let ranked = standing_ranked m rows rs e.cell is in let place_is = ranked.2 in let z : ◌≡◌ {A = ℕ} 0 1 = cc in absurd (omega arith)) (λ isnt. isnt) (cases_Bool (is_ranked rs e.cell)) in
+      let unranked : is_ranked rs e.cell ≡ false = ⊎_elim (λ is. let place_is = (standing_ranked m rows rs e.cell is).2 in grind arith) (λ isnt. isnt) (cases_Bool (is_ranked rs e.cell)) in
       let made : best m rs e.cell ≡ Some x = ⊎_elim
-      (λ none. let view-is = sym (standing_unranked m rs e.cell unranked ∙ ap view_of none) ∙ waits in let z : ◌≡◌ {A = ℕ} 0 1 = cc in absurd (omega arith))
-      (λ some. some.1 ∙ ap Some (let view-is = sym (standing_unranked m rs e.cell unranked ∙ ap view_of some.1) ∙ waits in cc))
+      (λ none. let view-is = standing_unranked m rs e.cell unranked ∙ ap view_of none in grind arith)
+      (λ some. let view-is = standing_unranked m rs e.cell unranked ∙ ap view_of some.1 in some.1 ∙ ap Some cc)
       (option_cases (best m rs e.cell)) in
       let known : (j : ℕ) (y : Bid L) → is_ranked rs j ≡ false → best m rs j ≡ Some y → standing m rs j ≡ waiting y = λ j y isnt is. standing_unranked m rs j isnt ∙ ap view_of is in (
         level,
@@ -117,12 +110,11 @@ module _ {L R : Type 0} (m : Measuring L) {rows : Rows L R} (laws : KindLaws m.k
           made = ap (best m rs) named.0 ∙ made;
           shortest = λ j y lt isnt is. ap (λ a. m.kind.le a y.length) (sym level) ∙ shorter-than y (above j y lt (known j y isnt is));
           lowest = λ j y lt isnt is same.
-              let lower = or_cases (leb e.cell y.cell) _ (and_parts _ _ (above j y lt (known j y isnt is))).1 in
+              let told = above j y lt (known j y isnt is) in
               let cell = (t.named j y lt (known j y isnt is)).0 in
-              ⊎_elim
-              (λ le. omega (arith, leb-true e.cell y.cell le, named.0, cell))
-              (λ not-longer. absurd (both_ways _ (not-true _ not-longer) (le_same laws (laws.same y.length ∙ same ∙ sym level))))
-              lower;
+              let here = named.0 in
+              let back = le_same laws (laws.same y.length ∙ same ∙ sym level) in
+              grind (arith, nat_tests);
         }),
       )
 
@@ -131,11 +123,8 @@ module _ {L R : Type 0} (m : Measuring L) {rows : Rows L R} (laws : KindLaws m.k
   none_left rs map t j lt isnt =
       ⊎_elim
       (λ none. none)
-      (λ some. absurd (empty (t.queues j some.0 lt (standing_unranked m rs j isnt ∙ ap view_of some.1))))
+      (λ some. let had = t.queues j some.0 lt (standing_unranked m rs j isnt ∙ ap view_of some.1) in absurd (omega (arith, had.1)))
       (option_cases (best m rs j))
-    where
-      empty : {x : Offer R} → ContainsAt [] x → ⊥
-      empty (k, lt, is) = omega arith
 
   -- a ranked cell is marked, and no other
   marked : (rs : List (Bid L)) (map : List (MapRecord R)) (es : List (Offer R)) (e : Offer R) (r : MapRecord R) → Tracks m.kind rows (area m.board.size) (standing m rs) map (e ∷ es) → r ≡ get_or map e.cell r → (v : View L) → standing m rs e.cell ≡ v → r ≡ shown m.kind rows v

@@ -14,12 +14,11 @@ module _ {E : Type 0} {le : E → E → Bool} where
   pub holed_part : (xs : List E) (n m h : ℕ) → m ≤ length xs → n ≤ length xs → ((i : ℕ) → i < m → i ≢ h → i < n) → (0 < h → m ≤ h + 1) → Heap le (take n xs) → Holed le (take m xs) h
   holed_part xs n m h within longer kept last heap =
       let part : length (take m xs) ≡ m = length-take-le m xs within in
-      let whole : length (take n xs) ≡ n = length-take-le n xs longer in
       record {
         apart = λ i d some in-part isnt other.
             let at : i < n = kept i (omega arith) isnt in
-            (λ j. le ((get_or-take m xs (parent i) d (omega arith) ∙ sym (get_or-take n xs (parent i) d (omega arith))) j) ((get_or-take m xs i d (omega arith) ∙ sym (get_or-take n xs i d at)) j))
-            ∙ heap i d some (omega arith);
+            let order = heap i d some (omega (arith, length-take-le n xs longer)) in
+            grind (arith, get_or-take);
         across = λ i d some behind in-part is. let end = last some in absurd (omega arith);
       }
 
@@ -57,6 +56,5 @@ module _ {E : Type 0} (xs ys : List E) (n m : ℕ) (first : E) (one : n ≡ m + 
 
   pub least_of : {le : E → E → Bool} → OrderLaws le → Heap le (take n xs) → AllByRecursion (λ y. le first y ≡ true) (take n xs)
   least_of {le} laws heap =
-      let front : first ≡ get_or (take n xs) 0 first = is ∙ sym (get_or-take n xs 0 first (omega arith)) in
       All-from_get_or (λ y. le first y ≡ true) (take n xs) first
-      (λ i lt. ap (λ y. le y (get_or (take n xs) i first)) front ∙ first_least laws (take n xs) heap i first lt)
+      (λ i lt. let least = first_least laws (take n xs) heap i first lt in grind (arith, get_or-take))
