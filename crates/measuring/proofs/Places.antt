@@ -1,7 +1,7 @@
 -- Which offers a walk over the rows around a cell can leave out. Assumes nothing.
 use Rattle.std.proofs.Common.{◌≡◌, ℕ, ◌+◌, ◌-◌, ◌*◌, ◌/◌, ◌%◌, ◌<◌, ◌≤◌, min, Bool, true, false, cond, not, ◌&&◌, ◌||◌, eqb, ◌⊎◌, List, None, Option, sym, refl, ap, ◌∙◌, inl, inr, ⊎_elim, arith}
 use Rattle.std.proofs.lemmas.Nat.{div-add-mod', div_below, div-mul-add, mod_below, mod-mul-add}
-use Rattle.std.proofs.lemmas.Bool.{and_from, and_left, and_right, cases_eq, cases_lt, cond_both, cond-false, cond-true, lt-ltb, not_from_false, not_from_true}
+use Rattle.std.proofs.lemmas.Bool.{and_from, and_left, and_right, cases_eq, cases_lt, cond_both, cond-false, cond-true}
 use Rattle.std.proofs.lemmas.Bool.Decides.{nat_tests}
 use Rattle.std.proofs.Math.Bool.{and-true}
 use Rattle.board.specs.Sizes.{area}
@@ -18,7 +18,7 @@ use Rattle.measuring.specs.Rankings.{Bid, offer, offered}
 use Rattle.measuring.specs.Tracking.{Tracks, View, across, raised, before, counted_before, offered_before, offerer, updated}
 use Rattle.measuring.specs.declared.offers.Offerer.{Offerer}
 use Rattle.measuring.proofs.HowMany.{how_many_none, how_many_one_more, how_many_same}
-use Rattle.measuring.proofs.Tracks.{tracks_same, updated_here, updated_other}
+use Rattle.measuring.proofs.Tracks.{tracks_same}
 
 module _ (size : Size) (row column : ℕ) where
   abbrev place : ℕ

@@ -1,11 +1,11 @@
 -- One turn of the ranking: what the entry that comes out of the queue says. Assumes nothing.
-use Rattle.std.proofs.Common.{◌≡◌, ℕ, suc, ◌+◌, ◌<◌, ◌≤◌, Bool, true, false, cond, eqb, ltb, leb, List, [], ◌∷◌, length, get_or, Some, None, sum_by, Option, sym, refl, ap, ◌∙◌, subst, ⊎_elim, add_comm, add-one, arith}
+use Rattle.std.proofs.Common.{◌≡◌, ℕ, suc, ◌+◌, ◌<◌, ◌≤◌, Bool, true, false, cond, eqb, ltb, List, [], ◌∷◌, length, get_or, Some, None, sum_by, Option, sym, refl, ap, ◌∙◌, subst, ⊎_elim, add_comm, add-one, arith}
 use Rattle.std.specs.List.{ContainsAt, AllByRecursion}
 use Rattle.std.specs.List.Sorted.{IsPermutation}
 use Rattle.std.proofs.lemmas.List.FromFn.{fill_by_all}
 use Rattle.std.proofs.ByRecursion.{all-has, all_shuffled, has_get_or}
 use Rattle.std.proofs.lemmas.List.Sums.{sum_by-cons}
-use Rattle.std.proofs.lemmas.Bool.{and_parts, both_ways, cases_Bool, cases_eq, cond-false, cond-true, eq-eqb, leb-true, lt-ltb, ne_eqb, not-true, or_cases, or_parts}
+use Rattle.std.proofs.lemmas.Bool.{and_parts, both_ways, cases_Bool, cases_eq, cond-false, cond-true, lt-ltb, or_cases, or_parts}
 use Rattle.std.proofs.lemmas.Bool.Decides.{nat_tests}
 use Rattle.board.specs.Records.{unreached_record}
 use Rattle.board.specs.Sizes.{area}
@@ -19,7 +19,7 @@ use Rattle.measuring.specs.Rankings.{Bid, best, first_ranked, is_ranked, next, o
 use Rattle.measuring.specs.Maps.{measured_map, reached_count, record_at, step_count}
 use Rattle.measuring.specs.Tracking.{View, unknown, waiting, placed, begun, starting, view_of, raised, standing, shown, entry, Owed, Ranks, Tracks, updated}
 use Rattle.measuring.proofs.Ranked.{all_ranked, first_ranked_more, first_ranked_sound, first_ranked_stops, is_next, none_next, option_cases, le_same}
-use Rattle.measuring.proofs.Tracks.{updated_here, updated_other, drop_first, tracks_same, tracks_shuffled}
+use Rattle.measuring.proofs.Tracks.{drop_first, tracks_same, tracks_shuffled}
 
 raised_placed : {L : Type 0} (kind : Kind L) (k : ℕ) (x : Bid L) (o : Option (Bid L)) → raised kind (placed k x) o ≡ placed k x
 raised_placed kind k x None = refl

@@ -1,12 +1,12 @@
 -- A queue's part of its slice before and after sifting. Assumes nothing.
-use Rattle.std.proofs.Common.{◌≡◌, ℕ, ◌+◌, ◌<◌, ◌≤◌, Bool, true, ◌≢◌, List, [], ◌∷◌, ◌++◌, length, get_or, take, drop, set, sym, ap, ◌∙◌, subst, arith}
+use Rattle.std.proofs.Common.{◌≡◌, ℕ, ◌+◌, ◌<◌, ◌≤◌, Bool, true, ◌≢◌, List, [], ◌∷◌, ◌++◌, length, get_or, take, set, sym, ap, ◌∙◌, subst, arith}
 use Rattle.std.specs.List.{AllByRecursion}
 use Rattle.std.specs.List.Sorted.{IsPermutation}
 use Rattle.std.proofs.ByRecursion.{All-from_get_or}
-use Rattle.std.proofs.lemmas.List.{get_or-take, length-append, length-drop, length-take-le, take_at, drop_at, take_more, set_at}
+use Rattle.std.proofs.lemmas.List.{get_or-take, length-take-le, take_more, set_at}
 use Rattle.std.proofs.lemmas.List.Sorted.{IsPermutation-refl, IsPermutation-cons, IsPermutation-sym, IsPermutation-to_front, IsPermutation-trans}
 use Rattle.queue.specs.Orders.{OrderLaws}
-use Rattle.queue.specs.Heaps.{parent, Heap, Holed}
+use Rattle.queue.specs.Heaps.{Heap, Holed}
 use Rattle.queue.proofs.Sifting.{first_least}
 
 module _ {E : Type 0} {le : E → E → Bool} where

@@ -1,4 +1,4 @@
-use Rattle.std.proofs.Common.{◌≡◌, ◌+◌, ◌*◌, ◌<◌, length, get_or, ◌∙◌, arith}
+use Rattle.std.proofs.Common.{◌≡◌, ◌+◌, ◌*◌, ◌<◌, length, get_or, arith}
 use Rattle.std.proofs.lemmas.List.{get_or_read, length-set}
 use Rattle.queue.specs.Heaps.{parent}
 use Rattle.queue.proofs.Sifting.{each_child, itself, moved_down, shuffled_moved}
