@@ -1,10 +1,10 @@
 -- What the ranked cells keep, and how the next one is found. Assumes nothing.
-use Rattle.std.proofs.Common.{◌≡◌, ℕ, zero, suc, ◌<◌, ◌≤◌, Bool, true, false, cond, eqb, ◌⊎◌, List, [], ◌∷◌, length, Some, None, Option, sym, refl, ap, ◌∙◌, subst, inl, inr, ⊎_elim, arith}
+use Rattle.std.proofs.Common.{◌≡◌, ℕ, zero, suc, ◌<◌, ◌≤◌, Bool, true, false, cond, ◌⊎◌, List, [], ◌∷◌, length, Some, None, Option, sym, refl, ap, ◌∙◌, subst, inl, inr, ⊎_elim, arith}
 use mathlib.Core.List.Memᴰ.{head as first}
 use mathlib.Core.List.Memᴰ.{tail as later}
 use mathlib.Core.List.{Memᴰ as Among}
 use Rattle.std.specs.List.{AllByRecursion}
-use Rattle.std.proofs.lemmas.Bool.{cases_Bool, cases_eq, both_ways, eqb-false, cond-false, cond_both}
+use Rattle.std.proofs.lemmas.Bool.{cases_Bool, cases_eq, both_ways, cond-false, cond_both}
 use Rattle.std.proofs.lemmas.Bool.Decides.{nat_tests}
 use Rattle.std.proofs.ByRecursion.{All-weaker}
 use Rattle.board.specs.Sizes.{area}
@@ -47,10 +47,10 @@ shorter_none kind (Some a) (Some b) e = absurd (grind (arith, nat_tests))
 
 module _ {L R : Type 0} {kind : Kind L} {rows : Rows L R} (laws : KindLaws kind rows) where
   pub le_itself : (a : L) → kind.le a a ≡ true
-  le_itself a = ⊎_elim (λ e. e) (λ e. e) (laws.total a a)
+  le_itself a = let either = laws.total a a in grind arith
 
   pub le_since_not : (a b : L) → kind.le a b ≡ false → kind.le b a ≡ true
-  le_since_not a b isnt = ⊎_elim (λ is. absurd (both_ways _ isnt is)) (λ back. back) (laws.total a b)
+  le_since_not a b isnt = let either = laws.total a b in grind arith
 
   pub le_same : {a b : L} → a ≡ b → kind.le a b ≡ true
   le_same {a} is = ap (λ b. kind.le a b) (sym is) ∙ le_itself a
@@ -80,12 +80,7 @@ module _ {L R : Type 0} {kind : Kind L} {rows : Rows L R} (laws : KindLaws kind 
 
 module _ {L : Type 0} (m : Measuring L) where
   pub start_is : (j : ℕ) {x : Bid L} → start m j ≡ Some x → (0 < source_of m.board m.group j) × (x ≡ record { cell = j; length = m.kind.zero; pad = source_of m.board m.group j; link = j })
-  start_is j e =
-      let pad = source_of m.board m.group j in
-      ⊎_elim
-      (λ w. some_or_none w.1 refl)
-      (λ w. (omega (arith, eqb-false pad 0 w.0), same_some w.1 refl))
-      (cond_some (eqb pad 0) _ _ e)
+  start_is j e = (grind (arith, nat_tests), grind (arith, nat_tests))
 
   pub offered_is : (r : Bid L) (j : ℕ) (o : Option L) {x : Bid L} → offered r j o ≡ Some x → (a : L) × (o ≡ Some a) × (x ≡ record { cell = j; length = a; pad = r.pad; link = r.cell })
   offered_is r j None e = some_or_none e refl
@@ -120,7 +115,7 @@ module _ {L : Type 0} (m : Measuring L) where
   candidate rs j = cond (is_ranked rs j) None (best m rs j)
 
   candidate_is : (rs : List (Bid L)) (j : ℕ) {x : Bid L} → candidate rs j ≡ Some x → (is_ranked rs j ≡ false) × (best m rs j ≡ Some x)
-  candidate_is rs j e = ⊎_elim (λ w. some_or_none w.1 refl) (λ w. w) (cond_some (is_ranked rs j) None _ e)
+  candidate_is rs j e = (grind (arith, nat_tests), grind (arith, nat_tests))
 
   made_below : (rs : List (Bid L)) (n : ℕ) {r : Bid L} → next_below m rs n ≡ Some r → (r.cell < n) × (candidate rs r.cell ≡ Some r)
   unfolding next_below

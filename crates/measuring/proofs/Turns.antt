@@ -5,7 +5,7 @@ use Rattle.std.specs.List.Sorted.{IsPermutation}
 use Rattle.std.proofs.lemmas.List.FromFn.{fill_by_all}
 use Rattle.std.proofs.ByRecursion.{all-has, all_shuffled, has_get_or}
 use Rattle.std.proofs.lemmas.List.Sums.{sum_by-cons}
-use Rattle.std.proofs.lemmas.Bool.{and_parts, both_ways, cases_Bool, cases_eq, cond-false, cond-true, lt-ltb, or_cases, or_parts}
+use Rattle.std.proofs.lemmas.Bool.{and_parts, both_ways, cases_Bool, cases_eq, cond-true, lt-ltb, or_parts}
 use Rattle.std.proofs.lemmas.Bool.Decides.{nat_tests}
 use Rattle.board.specs.Records.{unreached_record}
 use Rattle.board.specs.Sizes.{area}
@@ -56,14 +56,13 @@ module _ {L : Type 0} (m : Measuring L) where
   standing_ranked rows [] j ranked = absurd (both_ways false refl ranked)
   standing_ranked rows (r ∷ rs) j ranked =
       ⊎_elim
-      (λ here. (length rs, r, cond-true (eqb r.cell j) _ _ here, cond-true (eqb r.cell j) _ _ here))
+      (λ here. (length rs, r, grind (arith, nat_tests), grind (arith, nat_tests)))
       (λ other.
-      let before = standing_ranked rows rs j (⊎_elim (λ is. absurd (both_ways _ other is)) (λ is. is) (or_cases (eqb r.cell j) (is_ranked rs j) ranked)) in (
-        before.0,
-        before.1,
-        cond-false (eqb r.cell j) _ _ other ∙ ap (λ v. raised m.kind v (offer m r j)) before.2 ∙ raised_placed m.kind before.0 before.1 (offer m r j),
-        cond-false (eqb r.cell j) _ _ other ∙ before.3,
-      ))
+      let before = standing_ranked rows rs j (grind (arith, nat_tests)) in
+      let is = before.2 in
+      let record_is = before.3 in
+      let stays = raised_placed m.kind before.0 before.1 (offer m r j) in
+      (before.0, before.1, grind (arith, nat_tests), grind (arith, nat_tests)))
       (cases_Bool (eqb r.cell j))
 
   record_unranked : {R : Type 0} (rows : Rows L R) (rs : List (Bid L)) (j : ℕ) → is_ranked rs j ≡ false → record_at m.kind rows rs j ≡ shown m.kind rows unknown

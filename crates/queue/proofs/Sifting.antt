@@ -4,7 +4,7 @@ use Rattle.std.specs.List.Sorted.{IsPermutation}
 use Rattle.std.proofs.lemmas.List.Edits.{swap_is}
 use Rattle.std.proofs.lemmas.List.{get_or-set_same, get_or-set_other, length-set, set-set}
 use Rattle.std.proofs.lemmas.List.Sorted.{IsPermutation-swap, IsPermutation-trans}
-use Rattle.std.proofs.lemmas.Bool.{cases_eq, false≢true}
+use Rattle.std.proofs.lemmas.Bool.{cases_eq}
 use Rattle.std.proofs.lemmas.Grind.{get_or-set_at}
 use Rattle.queue.specs.Orders.{OrderLaws}
 use Rattle.queue.specs.Heaps.{parent, Heap, Holed, Above, BelowAll}
@@ -27,7 +27,7 @@ module _ {E : Type 0} (xs : List E) (h : ℕ) (v : E) where
 
 module _ {E : Type 0} {le : E → E → Bool} (laws : OrderLaws le) where
   pub not_before : (a b : E) → false ≡ le a b → le b a ≡ true
-  not_before a b isnt = ⊎_elim (λ is. absurd (false≢true (isnt ∙ is))) (λ back. back) (laws.total a b)
+  not_before a b isnt = let either = laws.total a b in grind arith
 
   -- what is at most both children is at most each
   pub each_child : (xs : List E) (h k : ℕ) → ((d : E) → le (get_or xs k d) (get_or xs (2 * h + 1) d) ≡ true) → ((d : E) → 2 * h + 1 + 1 < length xs → le (get_or xs k d) (get_or xs (2 * h + 1 + 1) d) ≡ true) → (i : ℕ) (d : E) → h < i → i < length xs → parent i ≡ h → le (get_or xs k d) (get_or xs i d) ≡ true
@@ -41,7 +41,7 @@ module _ {E : Type 0} {le : E → E → Bool} (laws : OrderLaws le) where
       (cases_eq i (2 * h + 1))
 
   pub itself : (a : E) → le a a ≡ true
-  itself a = ⊎_elim (λ e. e) (λ e. e) (laws.total a a)
+  itself a = let either = laws.total a a in grind arith
 
   -- the hole is filled
   pub filled : (xs : List E) (h : ℕ) (x : E) → h < length xs → Holed le xs h → Above le xs h x → BelowAll le xs h x → Heap le (set xs h x)
