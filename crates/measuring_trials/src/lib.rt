@@ -80,12 +80,12 @@ mod tests {
 
     // A board, and what measuring its group 1 comes to.
     #[derive(Clone, Copy)]
-    struct Trial<'a> {
-        what: &'a str,
+    struct Trial<'w, 'c, 'r> {
+        what: &'w str,
         size: (u16, u16),
-        cells: &'a [Cell],
+        cells: &'c [Cell],
         counts: Counts,
-        records: &'a [MapRecord<u64>],
+        records: &'r [MapRecord<u64>],
     }
 
     // Measures group 1 of a board in tables that are longer than needed, and checks both counts and all entries of
@@ -94,7 +94,7 @@ mod tests {
     fn check_map<G: Gauge<Length = Whole>>(
         rt: &impl Abort,
         gauge: &G,
-        trial: &Trial<'_>,
+        trial: &Trial<'_, '_, '_>,
     ) -> Result<(), Fail> {
         let what = trial.what;
         let (rows, columns) = trial.size;
