@@ -10,11 +10,11 @@ use measuring::RowOf;
 
 // The maps of both groups, which a ruler measured, of a plate of so many cells.
 #[derive(Drop)]
-pub struct Maps<'a, R: Ruler> {
-    pub ruler: &'a R,
-    pub first: &'a [MapRecord<RowOf<R>>],
-    pub second: &'a [MapRecord<RowOf<R>>],
-    pub area: usize,
+pub(crate) struct Maps<'a, R: Ruler> {
+    pub(crate) ruler: &'a R,
+    pub(crate) first: &'a [MapRecord<RowOf<R>>],
+    pub(crate) second: &'a [MapRecord<RowOf<R>>],
+    pub(crate) area: usize,
     ghost whole_first: { area ≤ length first.now },
     ghost whole_second: { area ≤ length second.now },
 }
@@ -52,7 +52,7 @@ impl<R: Ruler> Maps<'_, R> {
     }
 
     // The least sum of a cell's two distances, or none where no cell has both.
-    pub fn least_sum(&self) -> Option<R::Length>
+    pub(crate) fn least_sum(&self) -> Option<R::Length>
         ensures { result ≡ least_sum R.Length.kind R.Length.rows (R.Ruler.ruling self.now.ruler.now).sum self.now.first.now self.now.second.now self.now.area }
     {
         // As a fold it takes half as long again: 169 in place of 108 microseconds on 256 × 256 cells.
@@ -64,7 +64,7 @@ impl<R: Ruler> Maps<'_, R> {
     }
 
     // Marks each cell whose two distances sum to the gap with 1 and the others with 0, and counts the first.
-    pub fn mark_route(&self, marks: &mut [u8]) -> usize
+    pub(crate) fn mark_route(&self, marks: &mut [u8]) -> usize
         requires { length marks.old ≡ self.now.area }
         ensures marks { marks.new ≡ route_marks R.Length.kind R.Length.rows (R.Ruler.ruling self.now.ruler.now).sum self.now.first.now self.now.second.now self.now.area }
         ensures count { result ≡ marked R.Length.kind R.Length.rows (R.Ruler.ruling self.now.ruler.now).sum self.now.first.now self.now.second.now self.now.area }

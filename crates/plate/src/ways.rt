@@ -44,7 +44,7 @@ fn write_way<K: Length>(map: &[MapRecord<K::Row>], start: u16, list: &mut [u16])
 }
 
 // Writes the way from a cell, which is 0 cells where the cell is unreached.
-pub fn walk<K: Length>(
+pub(crate) fn walk<K: Length>(
     map: &[MapRecord<K::Row>],
     start: u16,
     list: &mut [u16],

@@ -1,4 +1,4 @@
--- The words of lines and of layers, and the numbers that figures stand for.
+-- The words of lines and of layers, and the numbers that figures stand for. Assumes nothing.
 use Rattle.std.specs.Prelude.{◌≡◌, ◌≢◌, ◌+◌, ◌-◌, ◌*◌, ℕ, List, Result, fold, MatchResult}
 use lib.Chars.{codes}
 use Rattle.board.specs.declared.refusal.Refusal.{Refusal}
