@@ -144,12 +144,31 @@ module _ (b : Board) (i row column : ℕ) (within : column < b.size.columns) whe
   abbrev beside : ℕ
   beside = row * b.size.columns + column
 
-  pub beside_is : (at : Point) (x : Cell) (passed : Bool) → at ≡ point b i → cell b beside ≡ x → (row ≤ at.row + 1) × ((at.row ≤ row + 1) × ((column ≤ at.column + 1) × (at.column ≤ column + 1))) → beside < area b.size → passed ≡ ((eqb row at.row && eqb column at.column) || x.barred) → open_neighbour b i beside ≡ not passed
+  -- the place has the cell's number exactly where it is the cell's
+  pub numbered : (at : Point) → at ≡ point b i → eqb beside i ≡ (eqb row at.row && eqb column at.column)
+  numbered at placed =
+      let q = div-mul-add row b.size.columns column within in
+      let r = mod-mul-add row b.size.columns column within in
+      let whole = div-add-mod' i b.size.columns in
+      let row_is = ap (λ p. p.row) placed in
+      let column_is = ap (λ p. p.column) placed in
+      let apart : (i / b.size.columns ≡ row) → (i % b.size.columns ≡ column) → i ≡ beside = λ q r. sym whole ∙ (λ k. q k * b.size.columns + r k) in
+      ⊎_elim
+      (λ is. grind (arith, nat_tests))
+      (λ other.
+      ⊎_elim
+      (λ p. ⊎_elim (λ s. absurd (other (sym (apart p s)))) (λ s. grind (arith, nat_tests)) (cases_eq (i % b.size.columns) column))
+      (λ p. grind (arith, nat_tests))
+      (cases_eq (i / b.size.columns) row))
+      (cases_eq beside i)
+
+  pub beside_is : (at : Point) (x : Cell) (passed : Bool) → at ≡ point b i → cell b beside ≡ x → (row ≤ at.row + 1) × ((at.row ≤ row + 1) × ((column ≤ at.column + 1) × (at.column ≤ column + 1))) → beside < area b.size → passed ≡ (eqb beside i || x.barred) → open_neighbour b i beside ≡ not passed
   beside_is at x passed placed read near on-board told =
       let q = div-mul-add row b.size.columns column within in
       let r = mod-mul-add row b.size.columns column within in
       let row_is = ap (λ p. p.row) placed in
       let column_is = ap (λ p. p.column) placed in
+      let same = numbered at placed in
       let barred_is = ap (λ y. y.barred) read in
       let above = near.0 in
       let below = near.1.0 in

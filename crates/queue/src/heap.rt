@@ -34,7 +34,7 @@ fn lesser<O: Order>(entries: &[O::Entry], left: usize) -> usize
     ensures least { (d : O.Entry) → (O.Order.le (slice_index_or entries.now result d) (slice_index_or entries.now left d) ≡ true) × (O.Order.le (slice_index_or entries.now result d) (slice_index_or entries.now (left + 1) d) ≡ true) }
 {
     let right = left + 1;
-    left + !O::at_most(entries[left], entries[right]) as usize
+    right - O::at_most(entries[left], entries[right]) as usize
 }
 
 // Moves the hole at the front down to a place without children, each time to the lesser child, and says where.

@@ -5,7 +5,7 @@ use Rattle.queue.specs.Queues.{queued}
 use Rattle.measuring.specs.Boards.{beyond}
 use Rattle.measuring.specs.Measurements.{board_of, meant}
 use Rattle.measuring.specs.Tracking.{offerer}
-use Rattle.measuring.proofs.Places.{across_is, beside_is, Walked, counted_one, offered_one, skipped, skips_one, stood}
+use Rattle.measuring.proofs.Places.{across_is, beside_is, numbered, Walked, counted_one, offered_one, skipped, skips_one, stood}
 use Rattle.measuring.proofs.Tracks.{tracks_same}
 use Rattle.measuring.proofs.measurement.Measurement.offer_at.Goals as goal
 
@@ -36,6 +36,7 @@ returns g c =
     let read = get_or_default job.cells.now _ beyond _ lt in
     let at = c.requires.placed in
     let opens = beside_is b i row column within c.args.from.at _ _ at read c.requires.beside on-board c.passed_over.ensures ∙ ap not c.if-passed_over.false in
+    let not-itself = numbered b i row column within c.args.from.at at in
     record {
       few = search rules;
       room = search rules;
