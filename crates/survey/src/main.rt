@@ -1,10 +1,11 @@
 // Surveys one board: reads it as a sheet from standard input, carries out each line, measures both groups by
-// chessboard and prints a line for each action with its answer.
+// chessboard, reads the two maps and prints a line for each action with its answer.
 #![tactic(auto)]
 
-use board::{Cell, MapRecord};
+use board::{Cell, MapRecord, Size, group_of};
 use ending::{Stop, finish};
 use gauges::{Chessboard, WholeRuler};
+use lengths::Whole;
 use plate::{Draft, Readings};
 use queue::Offer;
 use sheets::{Edit, SheetReader, open_plate};
@@ -59,7 +60,67 @@ fn print_gap(
     Ok(())
 }
 
-// Enters the board, measures it and prints the gap.
+// The row and the column of the first cell whose pad is in group 2.
+fn first_target(size: Size, cells: &[Cell], groups: &[u8]) -> Option<(u16, u16)> {
+    let mut plate = cells.iter().take(size.area());
+    let number = plate.position(|cell| group_of(groups, cell.pad) == 2)?;
+    let number = u16::try_from(number).ok()?;
+    Some((number / size.columns, number % size.columns))
+}
+
+// Prints the nearest pad of group 1 to a cell.
+fn print_nearest(
+    rt: &impl Print,
+    draft: &Draft,
+    map: &[MapRecord<u64>],
+    row: u16,
+    column: u16,
+) -> Result<(), Stop> {
+    match draft.nearest::<Whole>(map, row, column, 1)? {
+        Some(pad) => println!(rt; "nearest\t{row}\t{column}\t{pad}")?,
+        None => println!(rt; "nearest\t{row}\t{column}\tunreached")?,
+    }
+    Ok(())
+}
+
+// Prints the way from a cell to group 1.
+fn print_way(
+    rt: &(impl Print + AllocGlobal),
+    draft: &Draft,
+    map: &[MapRecord<u64>],
+    row: u16,
+    column: u16,
+) -> Result<(), Stop> {
+    let mut list = vec![in rt.alloc(); 0; CELLS]?;
+    let count = draft.way::<Whole>(map, row, column, 1, &mut list)?;
+    print!(rt; "way\t{count}")?;
+    for cell in list.iter().take(count) {
+        print!(rt; "\t{cell}")?;
+    }
+    println!(rt; "")?;
+    Ok(())
+}
+
+// Prints the cells of the route.
+fn print_route(
+    rt: &(impl Print + AllocGlobal),
+    draft: &Draft,
+    first: &[MapRecord<u64>],
+    second: &[MapRecord<u64>],
+) -> Result<(), Stop> {
+    let mut marks = vec![in rt.alloc(); 0; CELLS]?;
+    let count = draft.route(&WholeRuler(Chessboard), first, second, &mut marks)?;
+    print!(rt; "route\t{count}")?;
+    for (cell, mark) in marks.iter().take(draft.size().area()).enumerate() {
+        if *mark == 1 {
+            print!(rt; "\t{cell}")?;
+        }
+    }
+    println!(rt; "")?;
+    Ok(())
+}
+
+// Enters the board, measures it and prints what the maps say.
 fn survey(rt: &(impl Print + AllocGlobal), sheet: &[u8]) -> Result<(), Stop> {
     let heap = rt.alloc();
     let mut cells = vec![in heap; Cell::BARE; CELLS]?;
@@ -79,7 +140,12 @@ fn survey(rt: &(impl Print + AllocGlobal), sheet: &[u8]) -> Result<(), Stop> {
     };
     measure(1, &mut first)?;
     measure(2, &mut second)?;
-    print_gap(rt, &draft, &first, &second)
+    print_gap(rt, &draft, &first, &second)?;
+    if let Some((row, column)) = first_target(draft.size(), &cells, &groups) {
+        print_nearest(rt, &draft, &first, row, column)?;
+        print_way(rt, &draft, &first, row, column)?;
+    }
+    print_route(rt, &draft, &first, &second)
 }
 
 fn main(rt: HostRuntime) -> io::Result<()> {
