@@ -3,3 +3,4 @@ pub mod Least
 pub mod Unique
 pub mod Transform
 pub mod Between
+pub mod Needed

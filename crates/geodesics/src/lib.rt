@@ -4,6 +4,7 @@
 
 ghost use Rattle.geodesics.specs.Between.{GapIsLeast, OverEveryRuler, RouteIsShortest};
 ghost use Rattle.geodesics.specs.Least.{BarredEverywhere, LeastLengths, LinksAreWays, OverEveryGauge};
+ghost use Rattle.geodesics.specs.Needed.{FirstIsNeeded, GrowthIsNeeded, OrderIsNeeded};
 ghost use Rattle.geodesics.specs.Transform.{PublishedTransform};
 ghost use Rattle.geodesics.specs.Unique.{OneMap};
 
@@ -44,4 +45,12 @@ pub fn gap_is_least<K: Length>()
 // Over every lawful ruler a cell is marked exactly when it lies on a path between the groups that is as short as any.
 pub fn route_is_shortest<K: Length>()
     ensures { OverEveryRuler K.Length.kind K.Length.rows RouteIsShortest }
+{}
+
+// The theorems do not hold of wrong models: lengths are not least under a gauge that breaks either law, and a rule that takes the last of
+// equal offers is not the rule of the map.
+pub fn wrong_models_fail()
+    ensures order { OrderIsNeeded }
+    ensures growth { GrowthIsNeeded }
+    ensures first { FirstIsNeeded }
 {}
