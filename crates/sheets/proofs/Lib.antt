@@ -1,0 +1,4 @@
+pub mod Figures
+pub mod Keywords
+pub mod Pairs
+pub mod Parting

@@ -1,6 +1,7 @@
 // Where and why a sheet was sent back.
 ghost use Rattle.std.specs.Prelude.{◌≡◌, Some};
-ghost use Rattle.sheets.specs.Words.{name_of};
+ghost use Rattle.sheets.specs.Words.{fault_text, layer_of, name_of};
+ghost use Rattle.sheets.specs.Lines.{fault_at};
 
 use crate::Place;
 use board::Refusal;
@@ -44,7 +45,9 @@ pub struct Fault {
 }
 
 impl Fault {
-    pub fn at(place: Place, refusal: Refusal) -> Fault {
+    pub fn at(place: Place, refusal: Refusal) -> Fault
+        ensures { result ≡ fault_at place.line place.field refusal }
+    {
         Fault {
             line: place.line,
             field: place.field,
@@ -52,7 +55,9 @@ impl Fault {
         }
     }
 
-    pub fn layer(self) -> Layer {
+    pub fn layer(self) -> Layer
+        ensures { result ≡ layer_of self.refusal }
+    {
         match self.refusal {
             Refusal::Size | Refusal::Tables | Refusal::Off | Refusal::Pad | Refusal::Group => {
                 Layer::Plate
@@ -64,6 +69,8 @@ impl Fault {
 }
 
 impl fmt::Display for Fault {
+    ghost output = { λ fault. Some (fault_text fault) };
+
     fn fmt<W: fmt::Write>(&self, f: &mut fmt::Formatter<W>) -> fmt::Result {
         let layer = self.layer();
         let number = self.refusal.number();

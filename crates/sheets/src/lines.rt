@@ -1,5 +1,8 @@
 // Reading a sheet line by line.
-ghost use Rattle.std.specs.Prelude.{◌≡◌, ◌<◌, true, is_some, IfOk, OnOk, OnErr};
+ghost use Rattle.std.specs.Prelude.{◌≡◌, ◌+◌, [], length, Ok, Err, MatchResult, OnOk, OnErr};
+ghost use Rattle.board.specs.declared.refusal.Refusal.TheVariants as refusal;
+ghost use Rattle.sheets.specs.Lines.{ended_lines, fault_at, too_long};
+ghost use Rattle.sheets.specs.Readers.{Goes, Parts, Passes, next_edit, next_plate, unread};
 
 use crate::line::{Line, split_once};
 use crate::{Edit, Fault, SheetReader};
@@ -10,7 +13,11 @@ pub const LONGEST: usize = 32768;
 
 impl<'a> SheetReader<'a> {
     // A reader at the start of a sheet.
-    pub fn new(sheet: &'a [u8]) -> SheetReader<'a> {
+    pub fn new(sheet: &'a [u8]) -> SheetReader<'a>
+        ensures sheet { result.sheet ≡ sheet.entry }
+        ensures place { result.place ≡ 0 }
+        ensures line { result.line ≡ 0 }
+    {
         SheetReader {
             sheet,
             place: 0,
@@ -26,7 +33,9 @@ impl<'a> SheetReader<'a> {
     }
 
     // A fault of the next line as a whole.
-    fn fault(&self, refusal: Refusal) -> Fault {
+    fn fault(&self, refusal: Refusal) -> Fault
+        ensures { result ≡ fault_at (self.now.line + 1) 0 refusal }
+    {
         Fault {
             line: self.line + 1,
             field: 0,
@@ -35,7 +44,9 @@ impl<'a> SheetReader<'a> {
     }
 
     // Whether the sheet is too long, which is judged before its first line.
-    fn check_length(&self) -> Result<(), Fault> {
+    fn check_length(&self) -> Result<(), Fault>
+        ensures { result ≡ too_long (length self.now.sheet.now) }
+    {
         if self.sheet.len() > LONGEST {
             return Err(Fault {
                 line: 0,
@@ -46,38 +57,44 @@ impl<'a> SheetReader<'a> {
         Ok(())
     }
 
-    // Reads the next line, and moves past it unless it is at fault.
-    fn read_line<T, F: FnOnce(Line<'a>) -> Result<T, Fault>>(&mut self, read: F) -> Result<T, Fault>
-        requires { (line : _) → line.place.field ≡ 0 → F.pre read line }
-        ensures same { self.new.sheet ≡ self.old.sheet }
-        ensures on { OnOk result (self.old.place < self.new.place) }
-        ensures fault { OnErr result (self.new ≡ self.old) }
+    // The next line, without its end.
+    fn next_line(&self) -> Result<&'a [u8], Fault>
+        ensures { MatchResult result (λ line. (rest : _) × Parts 10 (unread self.now) line.now rest) (λ fault. (ended_lines (unread self.now) ≡ []) × (fault ≡ fault_at (self.now.line + 1) 0 refusal.Line)) }
     {
         let unread = &self.sheet[self.place..];
         let (line, _) = split_once(unread, b'\n').ok_or(self.fault(Refusal::Line))?;
-        let value = read(Line::new(line, self.line + 1))?;
+        Ok(line)
+    }
+
+    // Moves past the next line.
+    fn pass(&mut self, line: &[u8])
+        requires { (rest : _) × Parts 10 (unread self.old) line.now rest }
+        ensures { Passes self.old self.new }
+    {
         self.place += line.len() + 1;
         self.line += 1;
-        Ok(value)
     }
 
     // Reads the sheet's first line, which gives the rows and columns. After a fault the reader is where it was.
     pub fn plate_line(&mut self) -> Result<(u16, u16), Fault>
-        ensures same { self.new.sheet ≡ self.old.sheet }
+        ensures answer { result ≡ next_plate self.old }
+        ensures passed { OnOk result (Passes self.old self.new) }
         ensures fault { OnErr result (self.new ≡ self.old) }
     {
         self.check_length()?;
         if self.line > 0 || self.place == self.sheet.len() {
             return Err(self.fault(Refusal::Order));
         }
-        self.read_line(Line::size)
+        let line = self.next_line()?;
+        let size = Line::new(line, self.line + 1).size()?;
+        self.pass(line);
+        Ok(size)
     }
 
-    // Reads the next line after the first, if there is one. After a fault the reader is where it was.
+    // Reads the next line after the first, if there is one. After a fault, and at the sheet's end, the reader is where it was.
     pub fn next_edit(&mut self) -> Result<Option<Edit>, Fault>
-        ensures same { self.new.sheet ≡ self.old.sheet }
-        ensures on { IfOk result (λ edit. is_some edit ≡ true → self.old.place < self.new.place) }
-        ensures fault { OnErr result (self.new ≡ self.old) }
+        ensures answer { result ≡ next_edit self.old }
+        ensures after { Goes self.old self.new result }
     {
         if self.line == 0 {
             self.check_length()?;
@@ -86,6 +103,9 @@ impl<'a> SheetReader<'a> {
         if self.place == self.sheet.len() {
             return Ok(None);
         }
-        self.read_line(Line::edit).map(Some)
+        let line = self.next_line()?;
+        let edit = Line::new(line, self.line + 1).edit()?;
+        self.pass(line);
+        Ok(Some(edit))
     }
 }

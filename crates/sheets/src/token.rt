@@ -1,6 +1,8 @@
 // Tokens: the fields of a line.
-ghost use Rattle.std.specs.Prelude.{◌≡◌, ◌<◌, ◌≤◌, length, slice_index, EachIndex, IfSome};
-ghost use Rattle.sheets.specs.Words.{ReadsWord, number_of};
+ghost use Rattle.std.specs.Prelude.{◌≡◌};
+ghost use Rattle.sheets.specs.Lines.{figure_of, figure_on, figures_of, number_in};
+ghost use Rattle.sheets.specs.Tokens.{token_figure, token_keyword};
+ghost use Rattle.sheets.specs.Words.{ReadsWord};
 
 use crate::Fault;
 use board::Refusal;
@@ -30,7 +32,9 @@ pub enum Keyword {
 
 impl Keyword {
     // How many figures follow the word.
-    pub fn figures(self) -> usize {
+    pub fn figures(self) -> usize
+        ensures { result ≡ figures_of self }
+    {
         match self {
             Keyword::Cell => 4,
             Keyword::Plate | Keyword::Bar | Keyword::Enrol => 2,
@@ -55,24 +59,42 @@ impl TryFrom<&[u8]> for Keyword {
     }
 }
 
-// The number that decimal digits stand for: no 0 before a digit, and at most 65,535.
-fn number(digits: &[u8]) -> Option<u16>
-    ensures value { IfSome result (λ value. value ≡ number_of digits.now) }
-    ensures alone { IfSome result (λ _. (0 < length digits.now) × (slice_index digits.now 0 ≡ 48 → length digits.now ≡ 1)) }
-    ensures digits { IfSome result (λ _. EachIndex digits.now (λ i. (48 ≤ slice_index digits.now i) × (slice_index digits.now i ≤ 57))) }
+// A number with one more decimal digit, if it is at most 65,535.
+fn with_digit(value: u16, digit: u8) -> Option<u16>
+    ensures { result ≡ figure_on value digit }
 {
-    if matches!(digits, [] | [b'0', _, ..]) {
-        return None;
-    }
-    digits.iter().try_fold(0, |value: u16, digit| match digit {
-        b'0'..=b'9' => value.checked_mul(10)?.checked_add(u16::from(*digit - b'0')),
+    match digit {
+        b'0'..=b'9' => value.checked_mul(10)?.checked_add(u16::from(digit - b'0')),
         _ => None,
-    })
+    }
+}
+
+// The number that decimal digits stand for, at most 65,535.
+fn digits_value(digits: &[u8]) -> Option<u16>
+    ensures { result ≡ number_in digits.now }
+{
+    let mut value = 0;
+    for digit in digits {
+        value = with_digit(value, *digit)?;
+    }
+    Some(value)
+}
+
+// The number of a figure: no 0 before a digit.
+fn number(digits: &[u8]) -> Option<u16>
+    ensures { result ≡ figure_of digits.now }
+{
+    match digits {
+        [] | [b'0', _, ..] => None,
+        _ => digits_value(digits),
+    }
 }
 
 impl Token<'_> {
     // What the word says; another word is a fault of the line.
-    pub fn keyword(self) -> Result<Keyword, Fault> {
+    pub fn keyword(self) -> Result<Keyword, Fault>
+        ensures { result ≡ token_keyword self.entry }
+    {
         match self {
             Token::Word { bytes, place } => {
                 Keyword::try_from(bytes).map_err(|refusal| Fault::at(place, refusal))
@@ -82,7 +104,9 @@ impl Token<'_> {
     }
 
     // What the figure says.
-    pub fn figure(self) -> Result<u16, Fault> {
+    pub fn figure(self) -> Result<u16, Fault>
+        ensures { result ≡ token_figure self.entry }
+    {
         match self {
             Token::Figure { bytes, place } => {
                 number(bytes).ok_or(Fault::at(place, Refusal::Figure))

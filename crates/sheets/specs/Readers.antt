@@ -1,0 +1,43 @@
+-- Where a reader is in its sheet, and where it goes. Assumes nothing.
+use Rattle.std.specs.Prelude.{◌≡◌, ℕ, ◌+◌, ◌<◌, ◌≤◌, List, [], ◌∷◌, length, drop, Some, None, Ok, Err, Option, Result}
+use Rattle.sheets.specs.Lines.{edit_next, ended, ended_lines, left_over, leftover, plate_asked}
+use Rattle.sheets.specs.declared.edit.Edit.{Edit}
+use Rattle.sheets.specs.declared.fault.Fault.{Fault}
+use Rattle.sheets.specs.declared.reader.SheetReader.{SheetReader}
+
+-- a text begins with a part that this byte ends, and has this rest behind it
+pub record Parts (end : ℕ) (bytes first behind : List ℕ) : Type 0 where
+  pub ended : ended end bytes ≡ first ∷ ended end behind
+  pub left_over : left_over end bytes ≡ left_over end behind
+  pub rest : behind ≡ drop (length first + 1) bytes
+  pub within : length first + 1 ≤ length bytes
+
+-- no part of a text is ended by this byte
+pub record Whole (end : ℕ) (bytes : List ℕ) : Type 0 where
+  pub ended : ended end bytes ≡ []
+  pub left_over : left_over end bytes ≡ bytes
+
+-- the bytes that are not read yet
+abbrev pub unread : SheetReader → List ℕ
+unread r = drop r.place r.sheet.now
+
+-- what a reader reads as the plate's line, and as the next one after it
+abbrev pub next_plate : SheetReader → Result (ℕ × ℕ) Fault
+next_plate r = plate_asked (length r.sheet.now) r.line (unread r)
+
+abbrev pub next_edit : SheetReader → Result (Option Edit) Fault
+next_edit r = edit_next (length r.sheet.now) r.line (unread r)
+
+-- the reader has passed one line
+pub record Passes (old new : SheetReader) : Type 0 where
+  pub sheet : new.sheet ≡ old.sheet
+  pub line : new.line ≡ old.line + 1
+  pub on : old.place < new.place
+  pub lines : drop 1 (ended_lines (unread old)) ≡ ended_lines (unread new)
+  pub rest : leftover (unread old) ≡ leftover (unread new)
+
+-- where a reader is after its next line: past an edit, and else where it was
+abbrev pub Goes : SheetReader → SheetReader → Result (Option Edit) Fault → Type 0
+Goes old new (Ok (Some e)) = Passes old new
+Goes old new (Ok None) = new ≡ old
+Goes old new (Err fault) = new ≡ old
