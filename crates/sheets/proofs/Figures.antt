@@ -19,7 +19,6 @@ grows : (value : ℕ) (ds : List ℕ) → value ≤ fold step value ds
 grows value [] = omega arith
 grows value (d ∷ ds) = let more = grows (step value d) ds in omega arith
 
-
 and_false : {X : Type 0} (a : Bool) (x : X) → None ≡ cond (a && false) (Some x) None
 and_false true x = refl
 and_false false x = refl

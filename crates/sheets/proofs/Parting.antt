@@ -58,6 +58,20 @@ left_over_none end (b ∷ bs) none = rw none
 beyond : (m n : ℕ) → cond (nat_lt m n) (Some m) None ≡ None → n ≤ m
 beyond m n e = grind (arith, nat_tests)
 
+first_none : (b : ℕ) (parts : List (List ℕ)) → with_first b parts ≡ [] → parts ≡ []
+first_none b [] e = refl
+first_none b (p ∷ ps) e = cc
+
+none_any : (end : ℕ) (bs : List ℕ) → ended end bs ≡ [] → list_any (λ c. c == end) bs ≡ false
+none_any end [] none = refl
+none_any end (b ∷ bs) none =
+    elim (b == end) as (λ t. cond t ([] ∷ ended end bs) (with_first b (ended end bs)) ≡ [] → ◌||◌ t (list_any (λ c. c == end) bs) ≡ false)
+    [ true ↦ λ e. cc | false ↦ λ e. none_any end bs (first_none b (ended end bs) e) ] none
+
+-- a text of which no part is ended is left over whole
+pub left_all : (end : ℕ) (bs : List ℕ) → ended end bs ≡ [] → left_over end bs ≡ bs
+left_all end bs none = left_over_none end bs (none_any end bs none)
+
 none_within : (end : ℕ) (bs : List ℕ) → length bs ≤ position_or_len (λ c. c == end) bs → list_any (λ c. c == end) bs ≡ false
 none_within end [] far = refl
 none_within end (b ∷ bs) far =

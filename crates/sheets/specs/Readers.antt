@@ -1,6 +1,7 @@
 -- Where a reader is in its sheet, and where it goes. Assumes nothing.
 use Rattle.std.specs.Prelude.{◌≡◌, ℕ, ◌+◌, ◌<◌, ◌≤◌, List, [], ◌∷◌, length, drop, Some, None, Ok, Err, Option, Result}
 use Rattle.sheets.specs.Lines.{edit_next, ended, ended_lines, left_over, leftover, plate_asked}
+use Rattle.sheets.specs.Reading.{Reading, State, edits_read}
 use Rattle.sheets.specs.declared.edit.Edit.{Edit}
 use Rattle.sheets.specs.declared.fault.Fault.{Fault}
 use Rattle.sheets.specs.declared.reader.SheetReader.{SheetReader}
@@ -41,3 +42,7 @@ abbrev pub Goes : SheetReader → SheetReader → Result (Option Edit) Fault →
 Goes old new (Ok (Some e)) = Passes old new
 Goes old new (Ok None) = new ≡ old
 Goes old new (Err fault) = new ≡ old
+
+-- what follows of a sheet from where its reader is
+abbrev pub reading_on : SheetReader → State → Reading
+reading_on r s = edits_read (ended_lines (unread r)) (leftover (unread r)) (r.line + 1) s

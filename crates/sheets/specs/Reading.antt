@@ -1,5 +1,6 @@
 -- What reading a sheet comes to: a plate or the first fault, and the tables afterwards. Assumes nothing.
 use Rattle.std.specs.Prelude.{◌≡◌, ℕ, ◌+◌, ◌||◌, ◌==◌, ◌*◌, Bool, true, false, cond, List, [], ◌∷◌, ◌++◌, length, drop, replicate, nat_le, nat_lt, Some, None, Ok, Err, Option, Result, refl, option_map}
+use Rattle.board.specs.Refusals.{after}
 use Rattle.board.specs.declared.cell.Cell.{Cell}
 use Rattle.board.specs.declared.refusal.Refusal.{Refusal}
 use Rattle.board.specs.declared.refusal.Refusal.TheVariants as refusal
@@ -18,18 +19,24 @@ pub record State : Type 0 where
   pub cells : List Cell
   pub groups : List ℕ
 
+abbrev pub state : Draft → List Cell → List ℕ → State
+state draft cells groups = record { draft = draft; cells = cells; groups = groups }
+
 -- the plate or the fault, and the tables afterwards
 pub record Reading : Type 0 where
   pub answer : Result Draft Fault
   pub cells : List Cell
   pub groups : List ℕ
 
+abbrev pub come_to : Result Draft Fault → List Cell → List ℕ → Reading
+come_to answer cells groups = record { answer = answer; cells = cells; groups = groups }
+
 abbrev pub read_whole : State → Reading
-read_whole s = record { answer = Ok s.draft; cells = s.cells; groups = s.groups }
+read_whole s = come_to (Ok s.draft) s.cells s.groups
 
 -- the lines before the fault have done their work, but no plate comes back
 abbrev pub stopped : Fault → List Cell → List ℕ → Reading
-stopped fault cells groups = record { answer = Err fault; cells = cells; groups = groups }
+stopped fault cells groups = come_to (Err fault) cells groups
 
 -- the plate's own answer to an edit
 abbrev pub edit_refusal : Edit → State → Option Refusal
@@ -39,13 +46,14 @@ edit_refusal (edit.Enrol pad group) s = enrol_refusal s.groups pad group
 
 -- the state after an edit that is accepted
 abbrev pub edited : Edit → State → State
-edited (edit.Cell row column height pad) s = record {
-  draft = outdated s.draft;
-  cells = cell_put s.draft s.cells row column (record { height = height; pad = pad; barred = false });
-  groups = s.groups;
-}
-edited (edit.Bar row column) s = record { draft = outdated s.draft; cells = cell_put s.draft s.cells row column barred_cell; groups = s.groups }
-edited (edit.Enrol pad group) s = record { draft = outdated s.draft; cells = s.cells; groups = group_put s.groups pad group }
+edited (edit.Cell row column height pad) s =
+    state (outdated s.draft) (cell_put s.draft s.cells row column (record { height = height; pad = pad; barred = false })) s.groups
+edited (edit.Bar row column) s = state (outdated s.draft) (cell_put s.draft s.cells row column barred_cell) s.groups
+edited (edit.Enrol pad group) s = state (outdated s.draft) s.cells (group_put s.groups pad group)
+
+-- the state after an edit; one that is sent back leaves it as it was
+abbrev pub carried : Edit → State → State
+carried e s = after (edit_refusal e s) s (edited e s)
 
 -- the field that a refusal speaks of: the row where that is off the plate, else the column
 abbrev pub field_off : Size → ℕ → ℕ
@@ -70,9 +78,18 @@ edit_field (edit.Cell row column height pad) size e = set_field size row e
 edit_field (edit.Bar row column) size e = bar_field size row e
 edit_field (edit.Enrol pad group) size e = enrol_field e
 
+-- the fault of an edit of this line that is refused so
+abbrev pub refused_at : ℕ → Edit → State → Refusal → Fault
+refused_at line e s r = fault_at line (edit_field e s.draft.header.size r) r
+
 -- what an edit of this line is at fault in, if anything
 abbrev pub edit_fault : ℕ → Edit → State → Option Fault
-edit_fault line e s = option_map (λ r. fault_at line (edit_field e s.draft.header.size r) r) (edit_refusal e s)
+edit_fault line e s = option_map (refused_at line e s) (edit_refusal e s)
+
+-- nothing, or a fault
+abbrev pub done_or : Option Fault → Result Unit Fault
+done_or None = Ok tt
+done_or (Some fault) = Err fault
 
 -- the field of the rows where these are bad, else of the columns; too short a table has none
 abbrev pub open_field : ℕ → Refusal → ℕ
@@ -85,11 +102,8 @@ open_fault rows columns cells groups = option_map (λ r. fault_at 1 (open_field 
 
 -- a plate just opened
 abbrev pub opened : ℕ → ℕ → List Cell → List ℕ → State
-opened rows columns cells groups = record {
-  draft = new_draft rows columns;
-  cells = replicate (rows * columns) bare_cell ++ drop (rows * columns) cells;
-  groups = replicate 64 0 ++ drop 64 groups;
-}
+opened rows columns cells groups =
+    state (new_draft rows columns) (replicate (rows * columns) bare_cell ++ drop (rows * columns) cells) (replicate 64 0 ++ drop 64 groups)
 
 -- what goes on, unless this fault comes first and leaves the tables so
 abbrev pub unless_at_fault : Option Fault → List Cell → List ℕ → Reading → Reading
@@ -109,6 +123,10 @@ end_fault rest line = cond (length rest == 0) None (Some (fault_at line 0 refusa
 unfoldable pub edits_read : List (List ℕ) → List ℕ → ℕ → State → Reading
 edits_read [] rest line s = unless_at_fault (end_fault rest line) s.cells s.groups (read_whole s)
 edits_read (first ∷ lines) rest line s = edit_read (edit_in line (fields_of first)) (λ e. edits_read lines rest (line + 1) (edited e s)) line s
+
+-- what opening the plate of a first line comes to
+abbrev pub opening : ℕ → ℕ → List Cell → List ℕ → Reading
+opening rows columns cells groups = unless_at_fault (open_fault rows columns cells groups) cells groups (read_whole (opened rows columns cells groups))
 
 -- the first line's call, and then the lines after it
 abbrev pub plate_read : Result (ℕ × ℕ) Fault → List (List ℕ) → List ℕ → List Cell → List ℕ → Reading

@@ -1,4 +1,8 @@
 // What the lines of a sheet ask of a plate.
+ghost use Rattle.std.specs.Prelude.{◌≡◌, Ok, Err};
+ghost use Rattle.board.specs.Refusals.{answered};
+ghost use Rattle.sheets.specs.Reading.{carried, come_to, done_or, edit_fault, edit_field, edit_refusal, field_off, open_field, opening, reading, state};
+
 use crate::{Fault, SheetReader};
 use board::{Cell, Refusal, Size};
 use plate::Draft;
@@ -28,37 +32,41 @@ pub fn open_plate(
     columns: u16,
     cells: &mut [Cell],
     groups: &mut [u8],
-) -> Result<Draft, Fault> {
-    Draft::open(rows, columns, cells, groups).map_err(|refusal| {
-        let field = match refusal {
-            Refusal::Size if rows == 0 || rows > 256 => 1,
-            Refusal::Size => 2,
-            _ => 0,
-        };
-        Fault {
-            line: 1,
-            field,
-            refusal,
-        }
+) -> Result<Draft, Fault>
+    ensures { come_to result cells.new groups.new ≡ opening rows columns cells.old groups.old }
+{
+    Draft::open(rows, columns, cells, groups).map_err(|refusal| Fault {
+        line: 1,
+        field: open_field(rows, refusal),
+        refusal,
     })
 }
 
+// The field of the rows where these are bad, else of the columns; too short a table has none.
+fn open_field(rows: u16, refusal: Refusal) -> u8
+    ensures { result ≡ open_field rows refusal }
+{
+    match refusal {
+        Refusal::Size if rows == 0 || rows > 256 => 1,
+        Refusal::Size => 2,
+        _ => 0,
+    }
+}
+
 // The field of the row where that is off the plate, else of the column.
-fn field_off(size: Size, row: u16) -> u8 {
+fn field_off(size: Size, row: u16) -> u8
+    ensures { result ≡ field_off size row }
+{
     if row >= size.rows { 1 } else { 2 }
 }
 
 impl Edit {
-    // Makes the call on the plate; `line` is where the sheet has it.
-    pub fn carry_out(
-        self,
-        line: usize,
-        draft: &mut Draft,
-        cells: &mut [Cell],
-        groups: &mut [u8],
-    ) -> Result<(), Fault> {
-        let size = draft.size();
-        let answer = match self {
+    // The plate's own call.
+    fn call(self, draft: &mut Draft, cells: &mut [Cell], groups: &mut [u8]) -> Result<(), Refusal>
+        ensures answer { result ≡ answered (edit_refusal self (state draft.old cells.old groups.old)) }
+        ensures after { state draft.new cells.new groups.new ≡ carried self (state draft.old cells.old groups.old) }
+    {
+        match self {
             Edit::Cell {
                 row,
                 column,
@@ -67,8 +75,22 @@ impl Edit {
             } => draft.set(cells, row, column, height, pad),
             Edit::Bar { row, column } => draft.bar(cells, row, column),
             Edit::Enrol { pad, group } => draft.enrol(groups, pad, group),
-        };
-        answer.map_err(|refusal| Fault {
+        }
+    }
+
+    // Makes the call on the plate; `line` is where the sheet has it.
+    pub fn carry_out(
+        self,
+        line: usize,
+        draft: &mut Draft,
+        cells: &mut [Cell],
+        groups: &mut [u8],
+    ) -> Result<(), Fault>
+        ensures answer { result ≡ done_or (edit_fault line self (state draft.old cells.old groups.old)) }
+        ensures after { state draft.new cells.new groups.new ≡ carried self (state draft.old cells.old groups.old) }
+    {
+        let size = draft.size();
+        self.call(draft, cells, groups).map_err(|refusal| Fault {
             line,
             field: self.field_at_fault(size, refusal),
             refusal,
@@ -76,7 +98,9 @@ impl Edit {
     }
 
     // The first field that a refusal speaks of, on a plate of this size.
-    fn field_at_fault(self, size: Size, refusal: Refusal) -> u8 {
+    fn field_at_fault(self, size: Size, refusal: Refusal) -> u8
+        ensures { result ≡ edit_field self size refusal }
+    {
         match (self, refusal) {
             (Edit::Cell { row, .. } | Edit::Bar { row, .. }, Refusal::Off) => field_off(size, row),
             (Edit::Cell { .. }, Refusal::Pad) => 4,
@@ -88,7 +112,9 @@ impl Edit {
 }
 
 // Reads a sheet into the tables. The lines before a fault have done their work, but no plate comes back.
-pub fn read_sheet(sheet: &[u8], cells: &mut [Cell], groups: &mut [u8]) -> Result<Draft, Fault> {
+pub fn read_sheet(sheet: &[u8], cells: &mut [Cell], groups: &mut [u8]) -> Result<Draft, Fault>
+    ensures { come_to result cells.new groups.new ≡ reading sheet.now cells.old groups.old }
+{
     let mut reader = SheetReader::new(sheet);
     let (rows, columns) = reader.plate_line()?;
     let mut draft = open_plate(rows, columns, cells, groups)?;
