@@ -1,9 +1,8 @@
 -- Figures one after another.
-use Rattle.std.proofs.Common.{◌≡◌, ℕ, ◌+◌, List, [], get_or, drop, Ok, Err, Result, refl, sym, ap, ◌∙◌, arith, add-zero}
+use Rattle.std.proofs.Common.{◌≡◌, ℕ, ◌+◌, List, [], get_or, drop, Ok, Err, Result, sym, ap, ◌∙◌, arith, add-zero}
 use Rattle.std.proofs.lemmas.List.{get_or-drop, drop-drop}
 use Rattle.sheets.specs.Lines.{edit_in, figure_in, keyword_in, pair_in}
 use Rattle.sheets.specs.declared.edit.Edit.TheVariants as edit
-use Rattle.sheets.specs.declared.token.Keyword.{Keyword}
 use Rattle.sheets.specs.declared.token.Keyword.TheVariants.{Cell, Bar, Enrol}
 use Rattle.sheets.specs.declared.fault.Fault.{Fault}
 

@@ -2,7 +2,6 @@
 use Rattle.std.specs.Prelude.{◌≡◌, ℕ, ◌≤◌, Bool, true, false, refl}
 use Rattle.std.proofs.Common.{arith}
 use Rattle.std.proofs.lemmas.Bool.Decides.{nat_tests}
-use Rattle.std.proofs.Math.Dec.{lit≤}
 use Rattle.board.specs.Sizes.{bad_size}
 use Rattle.board.specs.declared.size.Size.{Size}
 use Rattle.plate.specs.declared.header.Draft.{Draft}

@@ -1,5 +1,5 @@
 -- The lines of a sheet, their fields, and what a line asks for or is at fault in. Assumes nothing.
-use Rattle.std.specs.Prelude.{ℕ, suc, ◌==◌, ◌+◌, ◌-◌, ◌*◌, Bool, true, cond, ◌&&◌, ◌||◌, List, [], ◌∷◌, ◌++◌, length, find, bytes_eq, drop, nat_le, nat_lt, slice_index_or, Some, None, Ok, Err, Option, Result}
+use Rattle.std.specs.Prelude.{ℕ, ◌==◌, ◌+◌, ◌-◌, ◌*◌, Bool, true, cond, ◌&&◌, ◌||◌, List, [], ◌∷◌, ◌++◌, length, find, bytes_eq, nat_le, nat_lt, slice_index_or, Some, None, Ok, Err, Option, Result}
 use Rattle.std.specs.Char.{is_ascii_digit}
 use Rattle.std.specs.List.{list_all, list_any}
 use Rattle.board.specs.declared.refusal.Refusal.{Refusal}

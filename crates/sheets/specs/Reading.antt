@@ -1,5 +1,5 @@
 -- What reading a sheet comes to: a plate or the first fault, and the tables afterwards. Assumes nothing.
-use Rattle.std.specs.Prelude.{◌≡◌, ℕ, ◌+◌, ◌||◌, ◌==◌, ◌*◌, Bool, true, false, cond, List, [], ◌∷◌, ◌++◌, length, drop, replicate, nat_le, nat_lt, Some, None, Ok, Err, Option, Result, refl, option_map}
+use Rattle.std.specs.Prelude.{ℕ, ◌+◌, ◌||◌, ◌==◌, ◌*◌, false, cond, List, [], ◌∷◌, ◌++◌, length, drop, replicate, nat_le, nat_lt, Some, None, Ok, Err, Option, Result, option_map}
 use Rattle.board.specs.Refusals.{after}
 use Rattle.board.specs.declared.cell.Cell.{Cell}
 use Rattle.board.specs.declared.refusal.Refusal.{Refusal}

@@ -1,4 +1,4 @@
-use Rattle.std.proofs.Common.{◌≡◌, ◌+◌, ◌∙◌, Ok, Err, Some, None, sym, ap, subst, arith, rules, Option, Result}
+use Rattle.std.proofs.Common.{◌≡◌, ◌+◌, ◌∙◌, Ok, Err, sym, ap, subst, arith, rules, Option}
 use Rattle.sheets.specs.Readers.{Goes, Passes, reading_on}
 use Rattle.sheets.specs.declared.edit.Edit.{Edit}
 use Rattle.sheets.specs.Reading.{come_to, done_or, edit_fault, edit_refusal, edited, refused_at, state}

@@ -1,6 +1,6 @@
 use Rattle.std.proofs.Common.{◌∙◌, sym, ap, refl, arith}
 use Rattle.std.proofs.lemmas.List.{drop_all}
-use Rattle.sheets.proofs.Figures.{broken_off, figures_on, number_is, went_on}
+use Rattle.sheets.proofs.Figures.{broken_off, figures_on, number_is}
 use Rattle.sheets.proofs.token.digits_value.Goals as goal
 
 pub returns-in_err-value : goal.returns-in_err-value

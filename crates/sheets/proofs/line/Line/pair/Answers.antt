@@ -1,6 +1,5 @@
 use Rattle.std.proofs.Common.{◌≡◌, ◌∙◌, ◌+◌, ap, sym, drop, Err, rules}
 use Rattle.sheets.specs.Lines.{pair_in}
-use Rattle.sheets.specs.Tokens.{fields_left}
 use Rattle.sheets.proofs.Pairs.{more_left, next_figure, pair_err, pair_ok}
 use Rattle.sheets.proofs.line.Line.pair.Goals as goal
 
