@@ -1,5 +1,6 @@
 // What the lines of a sheet ask of a plate.
-ghost use Rattle.std.specs.Prelude.{◌≡◌, Ok, Err};
+ghost use Rattle.std.specs.Prelude.{◌≡◌, ◌≤◌, length, IfOk};
+ghost use Rattle.board.specs.Sizes.{area};
 ghost use Rattle.board.specs.Refusals.{answered};
 ghost use Rattle.sheets.specs.Reading.{carried, come_to, done_or, edit_fault, edit_field, edit_refusal, field_off, open_field, opening, reading, state};
 
@@ -33,7 +34,8 @@ pub fn open_plate(
     cells: &mut [Cell],
     groups: &mut [u8],
 ) -> Result<Draft, Fault>
-    ensures { come_to result cells.new groups.new ≡ opening rows columns cells.old groups.old }
+    ensures opening { come_to result cells.new groups.new ≡ opening rows columns cells.old groups.old }
+    ensures fits { IfOk result (λ d. area d.header.size ≤ length cells.old) }
 {
     Draft::open(rows, columns, cells, groups).map_err(|refusal| Fault {
         line: 1,
@@ -65,6 +67,7 @@ impl Edit {
     fn call(self, draft: &mut Draft, cells: &mut [Cell], groups: &mut [u8]) -> Result<(), Refusal>
         ensures answer { result ≡ answered (edit_refusal self (state draft.old cells.old groups.old)) }
         ensures after { state draft.new cells.new groups.new ≡ carried self (state draft.old cells.old groups.old) }
+        ensures size { draft.new.header.size ≡ draft.old.header.size }
     {
         match self {
             Edit::Cell {
@@ -88,6 +91,7 @@ impl Edit {
     ) -> Result<(), Fault>
         ensures answer { result ≡ done_or (edit_fault line self (state draft.old cells.old groups.old)) }
         ensures after { state draft.new cells.new groups.new ≡ carried self (state draft.old cells.old groups.old) }
+        ensures size { draft.new.header.size ≡ draft.old.header.size }
     {
         let size = draft.size();
         self.call(draft, cells, groups).map_err(|refusal| Fault {
@@ -113,7 +117,8 @@ impl Edit {
 
 // Reads a sheet into the tables. The lines before a fault have done their work, but no plate comes back.
 pub fn read_sheet(sheet: &[u8], cells: &mut [Cell], groups: &mut [u8]) -> Result<Draft, Fault>
-    ensures { come_to result cells.new groups.new ≡ reading sheet.now cells.old groups.old }
+    ensures reading { come_to result cells.new groups.new ≡ reading sheet.now cells.old groups.old }
+    ensures fits { IfOk result (λ d. area d.header.size ≤ length cells.old) }
 {
     let mut reader = SheetReader::new(sheet);
     let (rows, columns) = reader.plate_line()?;

@@ -5,15 +5,15 @@ use Rattle.sheets.specs.Reading.{come_to, done_or, edit_fault, edit_refusal, edi
 use Rattle.sheets.proofs.Onward.{accepted, begun, new_plate, not_opened, on_edit, on_err, on_none, sent_back}
 use Rattle.sheets.proofs.edit.read_sheet.Goals as goal
 
-pub returns-in_err-draft : goal.returns-in_err-draft
-returns-in_err-draft c =
+pub returns-in_err-draft-clause-reading : goal.returns-in_err-draft-clause-reading
+returns-in_err-draft-clause-reading c =
     let new = new_plate c.new-reader.result c.args.sheet c.new-reader.ensures.sheet c.new-reader.ensures.place c.new-reader.ensures.line in
     let size = begun c.args.sheet.now c.args.cells.now c.args.groups.now _ (c.in_ok-rows.ensures.answer ∙ new) in
     let out : c.from_residual-in_err-draft.result ≡ Err c.in_err-draft.field-0.0 = search rules in
-    ap (λ r. come_to r c.open_plate.new.cells c.open_plate.new.groups) out ∙ not_opened _ _ _ _ _ _ _ _ c.in_err-draft.ensures ∙ sym size
+    ap (λ r. come_to r c.open_plate.new.cells c.open_plate.new.groups) out ∙ not_opened _ _ _ _ _ _ _ _ c.in_err-draft.ensures.opening ∙ sym size
 
-pub returns-in_err-edit : goal.returns-in_err-edit
-returns-in_err-edit c =
+pub returns-in_err-edit-clause-reading : goal.returns-in_err-edit-clause-reading
+returns-in_err-edit-clause-reading c =
     let l = c.loop-edit in
     let out : c.from_residual-in_err-edit.result ≡ Err c.in_err-edit.field-0.0 = search rules in
     ap (λ r. come_to r l.cells l.groups) out ∙ sym (l.invariant.whole ∙ on_err l.reader (state l.draft l.cells l.groups) _ l.invariant.begun c.in_err-edit.ensures.answer)
@@ -32,10 +32,11 @@ loop-edit-preserved c =
     record {
       begun = omega arith;
       whole = l.invariant.whole ∙ on ∙ told.0 ∙ ap (reading_on next) (sym told.1);
+      fits = rw c.in_ok-carry_out.ensures.size l.invariant.fits;
     }
 
-pub returns-in_err-carry_out : goal.returns-in_err-carry_out
-returns-in_err-carry_out c =
+pub returns-in_err-carry_out-clause-reading : goal.returns-in_err-carry_out-clause-reading
+returns-in_err-carry_out-clause-reading c =
     let l = c.loop-edit in
     let s = state l.draft l.cells l.groups in
     let e = c.in-Some.edit in
@@ -48,7 +49,7 @@ returns-in_err-carry_out c =
     let out : c.from_residual-in_err-carry_out.result ≡ Err c.in_err-carry_out.field-0.0 = search rules in
     ap (λ r. come_to r c.carry_out.new.cells c.carry_out.new.groups) out ∙ told ∙ sym (l.invariant.whole ∙ on)
 
-pub returns : goal.returns
-returns c =
+pub returns-clause-reading : goal.returns-clause-reading
+returns-clause-reading c =
     let l = c.loop-edit in
     sym (l.invariant.whole ∙ on_none l.reader (state l.draft l.cells l.groups) l.invariant.begun (ap Ok (sym c.in_default.is) ∙ c.in_ok-edit.ensures.answer))

@@ -1,4 +1,5 @@
-use Rattle.std.proofs.Common.{◌≡◌, ◌-◌, ◌<◌, length}
+use Rattle.std.proofs.Common.{◌≡◌, ◌-◌, ◌<◌, ◌≤◌, length}
+use Rattle.board.specs.Sizes.{area}
 use Rattle.sheets.specs.Readers.{reading_on}
 use Rattle.sheets.specs.Reading.{reading, state}
 use Rattle.sheets.proofs.edit.read_sheet.Given as goal
@@ -7,6 +8,7 @@ abbrev pub invariant-loop-edit : goal.invariant-loop-edit
 invariant-loop-edit l = record {
   begun : 0 < l.reader.line;
   whole : reading l.fn.sheet l.fn.cells l.fn.groups ≡ reading_on l.reader (state l.draft l.cells l.groups);
+  fits : area l.draft.header.size ≤ length l.fn.cells;
 }
 
 abbrev pub decreases-loop-edit : goal.decreases-loop-edit
