@@ -1,0 +1,74 @@
+// The gap of a sheet's plate, measured by chessboard.
+ghost use Rattle.std.specs.Prelude.{◌≡◌, ◌≤◌, length, string_bytes, IfOk};
+ghost use Rattle.board.specs.Sizes.{area};
+ghost use Rattle.console.specs.Gaps.{board_gap, by_chessboard, gap_text, sheet_gap};
+ghost use Rattle.lengths.specs.Wholes.{whole_rows};
+ghost use Rattle.measuring.specs.Maps.{filled};
+ghost use Rattle.plate.specs.Maps.{measured};
+
+use board::{Cell, MapRecord};
+use gauges::{Chessboard, WholeRuler};
+use lengths::Whole;
+use plate::{Draft, Readings};
+use queue::Offer;
+use sheets::{Fault, read_sheet};
+use std::alloc::{AllocError, Global};
+
+// How many cells the tables hold, and how many entries the queue.
+const CELLS: usize = 256;
+
+const ENTRIES: usize = 2304;
+
+const BY_CHESSBOARD: WholeRuler<Chessboard> = WholeRuler(Chessboard);
+
+// Measures a group of a plate that fits the tables, which is never sent back.
+fn measure(draft: &mut Draft, cells: &[Cell], groups: &[u8], group: u16, map: &mut [MapRecord<u64>])
+    requires few { area draft.old.header.size ≤ 256 }
+    requires cells { area draft.old.header.size ≤ length cells.now }
+    requires groups { 64 ≤ length groups.now }
+    requires group { 1 ≤ group }
+    requires known { group ≤ 2 }
+    requires map { area draft.old.header.size ≤ length map.old }
+    ensures map { map.new ≡ filled whole_rows (by_chessboard draft.old.header.size cells.now groups.now group) map.old }
+    ensures draft { draft.new ≡ measured group draft.old }
+{
+    let mut entries = [Offer { length: 0, cell: 0 }; ENTRIES];
+    draft
+        .measure(&BY_CHESSBOARD, cells, groups, group, map, &mut entries)
+        .unwrap();
+}
+
+// The gap of a plate that fits the tables.
+fn plate_gap(draft: &mut Draft, cells: &[Cell], groups: &[u8]) -> Option<Whole>
+    requires few { area draft.old.header.size ≤ 256 }
+    requires cells { area draft.old.header.size ≤ length cells.now }
+    requires groups { 64 ≤ length groups.now }
+    ensures { result ≡ board_gap draft.old.header.size cells.now groups.now }
+{
+    let mut first = [MapRecord::unreached(0); CELLS];
+    let mut second = [MapRecord::unreached(0); CELLS];
+    measure(draft, cells, groups, 1, &mut first);
+    measure(draft, cells, groups, 2, &mut second);
+    draft.gap(&BY_CHESSBOARD, &first, &second).unwrap()
+}
+
+// The gap of the plate that a sheet gives in tables for 256 cells, or the sheet's fault.
+pub fn sheet_gap(sheet: &[u8]) -> Result<Option<Whole>, Fault>
+    ensures { result ≡ sheet_gap sheet.now }
+{
+    let mut cells = [Cell::BARE; CELLS];
+    let mut groups = [0; 64];
+    let mut draft = read_sheet(sheet, &mut cells, &mut groups)?;
+    Ok(plate_gap(&mut draft, &cells, &groups))
+}
+
+// The line that `gap` prints of a sheet.
+pub fn gap_line(alloc: Global, sheet: &[u8]) -> Result<String, AllocError>
+    ensures { IfOk result (λ line. string_bytes line ≡ gap_text (sheet_gap sheet.now)) }
+{
+    match sheet_gap(sheet) {
+        Ok(Some(gap)) => format!(in alloc; "gap\t{}\n", gap.units),
+        Ok(None) => format!(in alloc; "gap\tnone\n"),
+        Err(fault) => format!(in alloc; "{fault}\n"),
+    }
+}

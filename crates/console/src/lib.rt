@@ -1,0 +1,6 @@
+// What a program prints of a sheet, as text.
+#![tactic(auto)]
+
+pub mod gaps;
+
+pub use gaps::{gap_line, sheet_gap};

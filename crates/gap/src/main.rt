@@ -1,0 +1,13 @@
+// Prints the gap of the board whose sheet comes from standard input, or the sheet's fault.
+#![tactic(auto)]
+
+use console::gap_line;
+use std::io;
+use std::io::Read;
+
+fn main(rt: HostRuntime) -> io::Result<()> {
+    let mut sheet = Vec::new(rt.alloc());
+    rt.stdin().take(32769).read_to_end(&mut sheet)?;
+    let line = gap_line(rt.alloc(), &sheet)?;
+    print!(rt; "{line}")
+}
