@@ -18,7 +18,21 @@ pub struct Draft {
     pub(crate) header: Header,
 }
 
+// A plate that can be read only. It moves and is never copied, and no edit and no measuring takes it.
+#[derive(Drop)]
+pub struct Sealed {
+    pub(crate) header: Header,
+}
+
 impl Draft {
+    pub fn size(&self) -> Size
+        ensures { result ≡ self.now.header.size }
+    {
+        self.header.size
+    }
+}
+
+impl Sealed {
     pub fn size(&self) -> Size
         ensures { result ≡ self.now.header.size }
     {

@@ -7,7 +7,9 @@ pub mod header;
 pub mod maps;
 mod readings;
 mod routes;
+pub mod seals;
 mod ways;
 
-pub use header::{Draft, Header};
+pub use header::{Draft, Header, Sealed};
 pub use readings::Readings;
+pub use seals::NotSealed;

@@ -9,7 +9,7 @@ ghost use Rattle.plate.specs.declared.header.Header.{Header};
 
 use crate::routes::Maps;
 use crate::ways::walk;
-use crate::{Draft, Header};
+use crate::{Draft, Header, Sealed};
 use board::{Group, MapRecord, Refusal, known_pad};
 use gauges::Ruler;
 use lengths::Length;
@@ -176,6 +176,14 @@ impl Readings for Header {
 
 impl Readings for Draft {
     ghost header = { λ draft. draft.header };
+
+    fn header(&self) -> &Header {
+        &self.header
+    }
+}
+
+impl Readings for Sealed {
+    ghost header = { λ sealed. sealed.header };
 
     fn header(&self) -> &Header {
         &self.header
