@@ -1,0 +1,5 @@
+pub mod Said
+pub mod Histories
+pub mod Links
+pub mod Truths
+pub mod Steps
