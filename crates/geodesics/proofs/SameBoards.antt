@@ -1,5 +1,5 @@
 -- Boards that say the same have one map. Assumes nothing.
-use Rattle.std.proofs.Common.{◌≡◌, ℕ, zero, suc, ◌*◌, ◌/◌, ◌%◌, ◌<◌, cond, not, ◌&&◌, eqb, ltb, List, [], ◌∷◌, map, Some, None, Option, sym, refl, ap, ◌∙◌, ⊎_elim, arith}
+use Rattle.std.proofs.Common.{◌≡◌, ℕ, zero, suc, ◌*◌, ◌/◌, ◌%◌, ◌<◌, cond, not, ◌&&◌, eqb, ltb, List, [], ◌∷◌, length, map, sum_by, Some, None, Option, sym, refl, ap, ◌∙◌, ⊎_elim, arith}
 use Rattle.std.specs.List.{range_with_len, AllByRecursion}
 use Rattle.std.proofs.lemmas.Bool.{and_left, cases_Bool, cases_lt, cond-false, le-ltb}
 use Rattle.board.specs.Sizes.{area}
@@ -7,10 +7,10 @@ use Rattle.board.specs.Tables.{source_pad}
 use Rattle.lengths.specs.Kinds.{Kind, Rows, KindLaws}
 use Rattle.gauges.specs.Meanings.{crossed}
 use Rattle.gauges.specs.Steps.{neighbours}
-use Rattle.measuring.specs.Boards.{Board, cell, is_open, source_of, step, open_neighbour}
+use Rattle.measuring.specs.Boards.{Board, cell, is_open, source_of, step, open_neighbour, how_many}
 use Rattle.measuring.specs.Paths.{Measuring, onward}
 use Rattle.measuring.specs.Rankings.{Bid, offered, shorter, best, is_ranked, next_below, next, and_one, first_ranked, ranking}
-use Rattle.measuring.specs.Maps.{record_at, measured_map}
+use Rattle.measuring.specs.Maps.{record_at, measured_map, counts_of, reached_count, step_count}
 use Rattle.measuring.proofs.Ranked.{first_ranked_sound}
 use Rattle.geodesics.specs.Least.{OverEveryGauge}
 use Rattle.geodesics.specs.Unique.{SameBoard, OneMap}
@@ -89,11 +89,20 @@ module _ {L : Type 0} (m : Measuring L) (c : Board) (same : SameBoard m.group m.
         ap (λ rs. and_one rs (next (on m c) rs)) (same-first-ranked n) ∙
         ap (and_one rs) (same_next_below rs (first_ranked_sound m laws n).within (area c.size) ∙ ap (next_below m rs) same_area)
 
+    same_ranking : ranking (on m c) ≡ ranking m
+    same_ranking = same-first-ranked (area c.size) ∙ ap (first_ranked m) same_area
+
     same_map : measured_map rows (on m c) ≡ measured_map rows m
     unfolding measured_map
-    same_map =
-        let ranked : ranking (on m c) ≡ ranking m = same-first-ranked (area c.size) ∙ ap (first_ranked m) same_area in
-        λ k. map (record_at m.kind rows (ranked k)) (range_with_len 0 (same_area k))
+    same_map = λ k. map (record_at m.kind rows (same_ranking k)) (range_with_len 0 (same_area k))
+
+    -- and one pair of counts
+    pub same_counts : counts_of (on m c) ≡ counts_of m
+    unfolding reached_count step_count
+    same_counts = λ k. record {
+      reached = length (same_ranking k);
+      steps = sum_by (λ r. how_many (λ j. same_neighbour r.cell j k) (same_area k)) (same_ranking k);
+    }
 
 pub one_map : {L R : Type 0} {kind : Kind L} {rows : Rows L R} → KindLaws kind rows → OverEveryGauge kind rows OneMap
 one_map laws g lawful b fits group = (first_offers _ laws, one_ranking _ laws, λ c same. same_map _ c same laws)

@@ -1,1 +1,5 @@
-
+pub mod Examples
+pub mod Trimmed
+pub mod Moments
+pub mod Ranks
+pub mod Looks
