@@ -3,3 +3,4 @@ pub mod Trimmed
 pub mod Moments
 pub mod Ranks
 pub mod Looks
+pub mod Moves
