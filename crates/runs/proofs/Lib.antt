@@ -4,3 +4,4 @@ pub mod Moments
 pub mod Ranks
 pub mod Looks
 pub mod Moves
+pub mod Measures
