@@ -5,3 +5,4 @@ pub mod Ranks
 pub mod Looks
 pub mod Moves
 pub mod Measures
+pub mod Readings
