@@ -6,3 +6,4 @@ pub mod Looks
 pub mod Moves
 pub mod Measures
 pub mod Readings
+pub mod Laws

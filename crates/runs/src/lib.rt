@@ -1,8 +1,22 @@
 // Whole runs: any list of calls on a plate just opened, and what is true of every answer.
 #![tactic(auto)]
 
+ghost use Rattle.runs.specs.Steps.{GaugeRuns, RulerRuns};
+
 pub mod answer;
 pub mod call;
 
 pub use answer::Answer;
 pub use call::{Call, RulerCall};
+
+use lengths::Length;
+
+// Over every lawful gauge, whoever makes the calls and whatever the maps held when the plate was opened.
+pub fn calls_tell_the_truth<K: Length>()
+    ensures { GaugeRuns K.Length.kind K.Length.rows }
+{}
+
+// Over every lawful ruler, with the gap and the route.
+pub fn ruler_calls_tell_the_truth<K: Length>()
+    ensures { RulerRuns K.Length.kind K.Length.rows }
+{}

@@ -1,0 +1,6 @@
+-- Each step keeps that the tables hold the ledger and the maps of it. Assumes nothing.
+use Rattle.runs.proofs.Laws.{ruler_runs}
+use Rattle.runs.proofs.ruler_calls_tell_the_truth.Goals as goal
+
+pub returns : goal.returns
+returns g c = ruler_runs g.K.Length.kind g.K.Length.rows g.met.K.Length.lawful
