@@ -3,3 +3,4 @@ pub mod Histories
 pub mod Links
 pub mod Truths
 pub mod Steps
+pub mod Plates

@@ -5,9 +5,12 @@ ghost use Rattle.runs.specs.Steps.{GaugeRuns, RulerRuns};
 
 pub mod answer;
 pub mod call;
+pub mod plates;
+mod steps;
 
 pub use answer::Answer;
 pub use call::{Call, RulerCall};
+pub use plates::Tables;
 
 use lengths::Length;
 

@@ -1,0 +1,33 @@
+// A plate in either state, and the tables that are lent to a run.
+ghost use Rattle.runs.specs.Plates.{header_of};
+
+use board::{Cell, MapRecord};
+use plate::{Draft, Header, Readings, Sealed};
+use queue::Offer;
+
+#[derive(Drop)]
+pub(crate) enum Plate {
+    Draft(Draft),
+    Sealed(Sealed),
+}
+
+impl Readings for Plate {
+    ghost header = { header_of };
+
+    fn header(&self) -> &Header {
+        match self {
+            Plate::Draft(draft) => draft.header(),
+            Plate::Sealed(sealed) => sealed.header(),
+        }
+    }
+}
+
+// The tables of a plate, of any lengths and any content.
+#[derive(Drop)]
+pub struct Tables<'a, Row> {
+    pub cells: &'a mut [Cell],
+    pub groups: &'a mut [u8],
+    pub first: &'a mut [MapRecord<Row>],
+    pub second: &'a mut [MapRecord<Row>],
+    pub entries: &'a mut [Offer<Row>],
+}
