@@ -7,3 +7,4 @@ pub mod Moves
 pub mod Measures
 pub mod Readings
 pub mod Laws
+pub mod Lent

@@ -1,20 +1,21 @@
 // One call on a plate and its tables, by the plate's own call.
-ghost use Rattle.std.specs.Prelude.{◌≡◌, Option, Ok, IfOk, cond, ◌==◌, length};
-ghost use Rattle.gauges.specs.Meanings.{Crossing};
-ghost use Rattle.runs.specs.Plates.{state};
+ghost use Rattle.std.specs.Prelude.{◌≡◌, ℕ, List, Option, Ok, IfOk, cond, ◌==◌, length};
+ghost use Rattle.board.specs.declared.record.MapRecord.{MapRecord as TheRecord};
+ghost use Rattle.runs.specs.Plates.{OnCells, OnGroups, OnMaps, PlainStep, state};
 ghost use Rattle.runs.specs.Said.{said};
 ghost use Rattle.runs.specs.Said.Said.{done, measured, distance, nearest};
 ghost use Rattle.runs.specs.Steps.{Steps, telling};
 ghost use Rattle.runs.specs.declared.call.Call.TheVariants as call;
 ghost use Rattle.runs.specs.declared.call.RulerCall.TheVariants.{Plain};
 
-use crate::plates::{Plate, Tables};
+use crate::plates::Plate;
 use crate::{Answer, Call};
-use board::{MapRecord, Refusal};
+use board::{Cell, MapRecord, Refusal};
 use gauges::Gauge;
 use lengths::Length;
 use measuring::{Counts, RowOf};
 use plate::Readings;
+use queue::Offer;
 use std::alloc::{AllocError, Global};
 
 // What a call answered that has nothing else to say.
@@ -27,61 +28,47 @@ fn answer_edit<K>(outcome: Result<(), Refusal>) -> Answer<K>
     }
 }
 
-impl<'a, Row> Tables<'a, Row> {
-    // The map of group 1, and for any other number that of group 2.
-    fn map_of(&self, group: u16) -> &[MapRecord<Row>]
-        ensures { result.now ≡ cond (group == 1) self.now.first.now self.now.second.now }
-    {
-        if group == 1 { self.first } else { self.second }
-    }
+// The map that is lent for a group: the first for group 1, and the second for any other number.
+fn map_of<'a, Row>(
+    first: &'a [MapRecord<Row>],
+    second: &'a [MapRecord<Row>],
+    group: u16,
+) -> &'a [MapRecord<Row>]
+    ensures { result.now ≡ cond (group == 1) first.now second.now }
+{
+    if group == 1 { first } else { second }
 }
 
-// Gives a cell its height and pad.
-fn set<G: Gauge>(
+fn set<K: Length>(
     plate: &mut Plate,
-    tables: &mut Tables<'_, RowOf<G>>,
+    cells: &mut [Cell],
     row: u16,
     column: u16,
     height: u16,
     pad: u16,
-) -> Answer<G::Length>
-    ensures step { (sums : Option (G.Length → G.Length → G.Length)) (g : Crossing G.Length) → Steps (length tables.old.entries.now) (state plate.old tables.old.cells.now tables.old.groups.now tables.old.first.now tables.old.second.now) (said result) (state plate.new tables.new.cells.now tables.new.groups.now tables.new.first.now tables.new.second.now) G.Length.kind G.Length.rows g sums (Plain (call.Set row column height pad)) }
-    ensures same { length tables.new.entries.now ≡ length tables.old.entries.now }
+) -> Answer<K>
+    ensures { OnCells K.Length.kind K.Length.rows (call.Set row column height pad) (said result) plate.old plate.new cells.old cells.new }
 {
     match plate {
-        Plate::Draft(draft) => answer_edit(draft.set(tables.cells, row, column, height, pad)),
+        Plate::Draft(draft) => answer_edit(draft.set(cells, row, column, height, pad)),
         Plate::Sealed(_) => Answer::NotAllowed,
     }
 }
 
-// Bars a cell.
-fn bar<G: Gauge>(
-    plate: &mut Plate,
-    tables: &mut Tables<'_, RowOf<G>>,
-    row: u16,
-    column: u16,
-) -> Answer<G::Length>
-    ensures step { (sums : Option (G.Length → G.Length → G.Length)) (g : Crossing G.Length) → Steps (length tables.old.entries.now) (state plate.old tables.old.cells.now tables.old.groups.now tables.old.first.now tables.old.second.now) (said result) (state plate.new tables.new.cells.now tables.new.groups.now tables.new.first.now tables.new.second.now) G.Length.kind G.Length.rows g sums (Plain (call.Bar row column)) }
-    ensures same { length tables.new.entries.now ≡ length tables.old.entries.now }
+fn bar<K: Length>(plate: &mut Plate, cells: &mut [Cell], row: u16, column: u16) -> Answer<K>
+    ensures { OnCells K.Length.kind K.Length.rows (call.Bar row column) (said result) plate.old plate.new cells.old cells.new }
 {
     match plate {
-        Plate::Draft(draft) => answer_edit(draft.bar(tables.cells, row, column)),
+        Plate::Draft(draft) => answer_edit(draft.bar(cells, row, column)),
         Plate::Sealed(_) => Answer::NotAllowed,
     }
 }
 
-// Puts a pad into a group.
-fn enrol<G: Gauge>(
-    plate: &mut Plate,
-    tables: &mut Tables<'_, RowOf<G>>,
-    pad: u16,
-    group: u16,
-) -> Answer<G::Length>
-    ensures step { (sums : Option (G.Length → G.Length → G.Length)) (g : Crossing G.Length) → Steps (length tables.old.entries.now) (state plate.old tables.old.cells.now tables.old.groups.now tables.old.first.now tables.old.second.now) (said result) (state plate.new tables.new.cells.now tables.new.groups.now tables.new.first.now tables.new.second.now) G.Length.kind G.Length.rows g sums (Plain (call.Enrol pad group)) }
-    ensures same { length tables.new.entries.now ≡ length tables.old.entries.now }
+fn enrol<K: Length>(plate: &mut Plate, groups: &mut [u8], pad: u16, group: u16) -> Answer<K>
+    ensures { OnGroups K.Length.kind K.Length.rows (call.Enrol pad group) (said result) plate.old plate.new groups.old groups.new }
 {
     match plate {
-        Plate::Draft(draft) => answer_edit(draft.enrol(tables.groups, pad, group)),
+        Plate::Draft(draft) => answer_edit(draft.enrol(groups, pad, group)),
         Plate::Sealed(_) => Answer::NotAllowed,
     }
 }
@@ -95,55 +82,99 @@ fn answer_counts<K>(outcome: Result<Counts, Refusal>) -> Answer<K>
     }
 }
 
-// Measures a group into its map.
 fn measure<G: Gauge>(
     gauge: &G,
     plate: &mut Plate,
-    tables: &mut Tables<'_, RowOf<G>>,
+    cells: &[Cell],
+    groups: &[u8],
+    first: &mut [MapRecord<RowOf<G>>],
+    second: &mut [MapRecord<RowOf<G>>],
+    entries: &mut [Offer<RowOf<G>>],
     group: u16,
 ) -> Answer<G::Length>
-    ensures step { (sums : Option (G.Length → G.Length → G.Length)) → Steps (length tables.old.entries.now) (state plate.old tables.old.cells.now tables.old.groups.now tables.old.first.now tables.old.second.now) (said result) (state plate.new tables.new.cells.now tables.new.groups.now tables.new.first.now tables.new.second.now) G.Length.kind G.Length.rows (G.Gauge.crossing gauge.now) sums (Plain (call.Measure group)) }
-    ensures same { length tables.new.entries.now ≡ length tables.old.entries.now }
+    ensures { (sums : Option (G.Length → G.Length → G.Length)) → Steps (length entries.old) (state plate.old cells.now groups.now first.old second.old) (said result) (state plate.new cells.now groups.now first.new second.new) G.Length.kind G.Length.rows (G.Gauge.crossing gauge.now) sums (Plain (call.Measure group)) }
 {
     let Plate::Draft(draft) = plate else {
         return Answer::NotAllowed;
     };
-    let outcome = if group == 1 {
-        draft.measure(gauge, tables.cells, tables.groups, group, tables.first, tables.entries)
-    } else {
-        draft.measure(gauge, tables.cells, tables.groups, group, tables.second, tables.entries)
-    };
-    answer_counts(outcome)
+    if group == 1 {
+        return answer_counts(draft.measure(gauge, cells, groups, group, first, entries));
+    }
+    answer_counts(draft.measure(gauge, cells, groups, group, second, entries))
 }
 
-// A cell's distance.
-fn distance<G: Gauge>(
+fn distance<K: Length>(
     plate: &Plate,
-    tables: &Tables<'_, RowOf<G>>,
+    first: &[MapRecord<K::Row>],
+    second: &[MapRecord<K::Row>],
     row: u16,
     column: u16,
     group: u16,
-) -> Answer<G::Length>
-    ensures { (sums : Option (G.Length → G.Length → G.Length)) (g : Crossing G.Length) → let s = state plate.now tables.now.cells.now tables.now.groups.now tables.now.first.now tables.now.second.now in Steps (length tables.now.entries.now) s (said result) s G.Length.kind G.Length.rows g sums (Plain (call.Distance row column group)) }
+) -> Answer<K>
+    ensures { OnMaps K.Length.kind K.Length.rows (call.Distance row column group) (said result) plate.now plate.now first.now second.now }
 {
-    match plate.distance::<G::Length>(tables.map_of(group), row, column, group) {
+    match plate.distance::<K>(map_of(first, second, group), row, column, group) {
         Ok(found) => Answer::Distance(found),
         Err(refusal) => Answer::Refused(refusal),
     }
 }
 
-// A cell's pad.
-fn nearest<G: Gauge>(
+fn nearest<K: Length>(
     plate: &Plate,
-    tables: &Tables<'_, RowOf<G>>,
+    first: &[MapRecord<K::Row>],
+    second: &[MapRecord<K::Row>],
     row: u16,
     column: u16,
     group: u16,
-) -> Answer<G::Length>
-    ensures { (sums : Option (G.Length → G.Length → G.Length)) (g : Crossing G.Length) → let s = state plate.now tables.now.cells.now tables.now.groups.now tables.now.first.now tables.now.second.now in Steps (length tables.now.entries.now) s (said result) s G.Length.kind G.Length.rows g sums (Plain (call.Nearest row column group)) }
+) -> Answer<K>
+    ensures { OnMaps K.Length.kind K.Length.rows (call.Nearest row column group) (said result) plate.now plate.now first.now second.now }
 {
-    match plate.nearest::<G::Length>(tables.map_of(group), row, column, group) {
+    match plate.nearest::<K>(map_of(first, second, group), row, column, group) {
         Ok(found) => Answer::Nearest(found),
         Err(refusal) => Answer::Refused(refusal),
+    }
+}
+
+// The list of a way is made for it, with room for so many cells.
+fn way<K: Length>(
+    alloc: Global,
+    plate: &Plate,
+    first: &[MapRecord<K::Row>],
+    second: &[MapRecord<K::Row>],
+    row: u16,
+    column: u16,
+    group: u16,
+    room: usize,
+) -> Result<Answer<K>, AllocError>
+    ensures { IfOk result (λ answer. OnMaps K.Length.kind K.Length.rows (call.Way row column group room) (said answer) plate.now plate.now first.now second.now) }
+{
+    let mut list = vec![in alloc; 0u16; room]?;
+    match plate.way::<K>(map_of(first, second, group), row, column, group, &mut list) {
+        Ok(count) => {
+            list.truncate(count);
+            Ok(Answer::Way(list))
+        }
+        Err(refusal) => Ok(Answer::Refused(refusal)),
+    }
+}
+
+fn seal<K: Length>(plate: Plate) -> (Plate, Answer<K>)
+    ensures { (first second : List (TheRecord K.Row)) → OnMaps K.Length.kind K.Length.rows call.Seal (said result.1) plate result.0 first second }
+{
+    match plate {
+        Plate::Draft(draft) => match draft.seal() {
+            Ok(sealed) => (Plate::Sealed(sealed), Answer::Done),
+            Err(back) => (Plate::Draft(back.draft), Answer::Refused(back.refusal)),
+        },
+        Plate::Sealed(sealed) => (Plate::Sealed(sealed), Answer::NotAllowed),
+    }
+}
+
+fn break_seal<K: Length>(plate: Plate) -> (Plate, Answer<K>)
+    ensures { (first second : List (TheRecord K.Row)) → OnMaps K.Length.kind K.Length.rows call.Break (said result.1) plate result.0 first second }
+{
+    match plate {
+        Plate::Sealed(sealed) => (Plate::Draft(sealed.break_seal()), Answer::Done),
+        Plate::Draft(draft) => (Plate::Draft(draft), Answer::NotAllowed),
     }
 }
