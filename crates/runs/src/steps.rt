@@ -178,3 +178,48 @@ fn break_seal<K: Length>(plate: Plate) -> (Plate, Answer<K>)
         Plate::Draft(draft) => (Plate::Draft(draft), Answer::NotAllowed),
     }
 }
+
+// One call, whatever it is. Only a way's list wants memory.
+pub(crate) fn carry_out<G: Gauge>(
+    alloc: Global,
+    gauge: &G,
+    plate: Plate,
+    cells: &mut [Cell],
+    groups: &mut [u8],
+    first: &mut [MapRecord<RowOf<G>>],
+    second: &mut [MapRecord<RowOf<G>>],
+    entries: &mut [Offer<RowOf<G>>],
+    call: Call,
+) -> Result<(Plate, Answer<G::Length>), AllocError>
+    ensures { IfOk result (λ done. (sums : Option (G.Length → G.Length → G.Length)) → Steps (length entries.old) (state plate cells.old groups.old first.old second.old) (said done.1) (state done.0 cells.new groups.new first.new second.new) G.Length.kind G.Length.rows (G.Gauge.crossing gauge.now) sums (Plain call)) }
+{
+    let mut plate = plate;
+    let answer = match call {
+        Call::Set {
+            row,
+            column,
+            height,
+            pad,
+        } => set(&mut plate, cells, row, column, height, pad),
+        Call::Bar { row, column } => bar(&mut plate, cells, row, column),
+        Call::Enrol { pad, group } => enrol(&mut plate, groups, pad, group),
+        Call::Measure { group } => measure(
+            gauge, &mut plate, cells, groups, first, second, entries, group,
+        ),
+        Call::Distance { row, column, group } => {
+            distance(&plate, first, second, row, column, group)
+        }
+        Call::Nearest { row, column, group } => {
+            nearest(&plate, first, second, row, column, group)
+        }
+        Call::Way {
+            row,
+            column,
+            group,
+            room,
+        } => way(alloc, &plate, first, second, row, column, group, room)?,
+        Call::Seal => return Ok(seal(plate)),
+        Call::Break => return Ok(break_seal(plate)),
+    };
+    Ok((plate, answer))
+}
