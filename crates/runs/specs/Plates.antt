@@ -1,5 +1,5 @@
 -- A plate in either state as a state. Assumes nothing.
-use Rattle.std.specs.Prelude.{ℕ, Bool, true, false, List, Option}
+use Rattle.std.specs.Prelude.{ℕ, Bool, true, false, List, Some, Option}
 use Rattle.board.specs.declared.cell.Cell.{Cell}
 use Rattle.board.specs.declared.record.MapRecord.{MapRecord}
 use Rattle.plate.specs.declared.header.Header.{Header}
@@ -8,6 +8,7 @@ use Rattle.gauges.specs.Meanings.{Crossing}
 use Rattle.runs.specs.Said.{Said}
 use Rattle.runs.specs.Steps.{State, Steps}
 use Rattle.runs.specs.declared.call.Call.{Call}
+use Rattle.runs.specs.declared.call.RulerCall.{RulerCall}
 use Rattle.runs.specs.declared.call.RulerCall.TheVariants.{Plain}
 use Rattle.runs.specs.declared.plates.Plate.{Plate}
 use Rattle.runs.specs.declared.plates.Plate.TheVariants as plate
@@ -26,6 +27,12 @@ state p cells groups first second = record { header = header_of p; is_sealed = i
 -- a call by a gauge leads from state to state, over a queue of any length, with sums or without
 abbrev pub PlainStep : {L R : Type 0} → Kind L → Rows L R → Crossing L → Call → Said L → State R → State R → Type 0
 PlainStep {L} kind rows g call answer s s' = (entries : ℕ) (sums : Option (L → L → L)) → Steps entries s answer s' kind rows g sums (Plain call)
+
+-- a call by a ruler leads from state to state, over any queue, cells and groups
+abbrev pub RulerStep : {L R : Type 0} → Kind L → Rows L R → (L → L → L) → RulerCall → Said L → Plate → List (MapRecord R) → List (MapRecord R) → Type 0
+RulerStep {L} kind rows sum call answer p first second =
+    (g : Crossing L) (cells : List Cell) (groups : List ℕ) (entries : ℕ) →
+    Steps entries (state p cells groups first second) answer (state p cells groups first second) kind rows g (Some sum) call
 
 -- a call that is lent the cells, whatever the other tables are
 abbrev pub OnCells : {L R : Type 0} → Kind L → Rows L R → Call → Said L → Plate → Plate → List Cell → List Cell → Type 0

@@ -6,6 +6,7 @@ ghost use Rattle.runs.specs.Steps.{GaugeRuns, RulerRuns};
 pub mod answer;
 pub mod call;
 pub mod plates;
+mod ruler_steps;
 mod steps;
 
 pub use answer::Answer;

@@ -1,4 +1,6 @@
 // A plate in either state, and the tables that are lent to a run.
+ghost use Rattle.std.specs.Prelude.{◌≡◌};
+ghost use Rattle.board.specs.Sizes.{area};
 ghost use Rattle.runs.specs.Plates.{header_of};
 
 use board::{Cell, MapRecord};
@@ -30,4 +32,16 @@ pub struct Tables<'a, Row> {
     pub first: &'a mut [MapRecord<Row>],
     pub second: &'a mut [MapRecord<Row>],
     pub entries: &'a mut [Offer<Row>],
+}
+
+impl Plate {
+    // How many cells there are.
+    pub(crate) fn area(&self) -> usize
+        ensures { result ≡ area (header_of self.now).size }
+    {
+        match self {
+            Plate::Draft(draft) => draft.size().area(),
+            Plate::Sealed(sealed) => sealed.size().area(),
+        }
+    }
 }
