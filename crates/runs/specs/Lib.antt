@@ -4,3 +4,4 @@ pub mod Links
 pub mod Truths
 pub mod Steps
 pub mod Plates
+pub mod Runs

@@ -5,13 +5,17 @@ ghost use Rattle.runs.specs.Steps.{GaugeRuns, RulerRuns};
 
 pub mod answer;
 pub mod call;
+mod callers;
 pub mod plates;
 mod ruler_steps;
+pub mod run;
 mod steps;
+pub mod stopped;
 
 pub use answer::Answer;
 pub use call::{Call, RulerCall};
 pub use plates::Tables;
+pub use stopped::Stopped;
 
 use lengths::Length;
 

@@ -5,6 +5,7 @@ ghost use Rattle.runs.specs.Said.{said};
 ghost use Rattle.runs.specs.Steps.{Steps};
 ghost use Rattle.runs.specs.declared.call.RulerCall.TheVariants as call;
 
+use crate::callers::Caller;
 use crate::plates::Plate;
 use crate::steps::carry_out;
 use crate::{Answer, RulerCall};
@@ -50,31 +51,46 @@ fn route<R: Ruler>(
     }
 }
 
-// One call, whatever it is.
-pub(crate) fn carry_out_by_ruler<R: Ruler>(
-    alloc: Global,
-    ruler: &R,
-    plate: Plate,
-    cells: &mut [Cell],
-    groups: &mut [u8],
-    first: &mut [MapRecord<RowOf<R>>],
-    second: &mut [MapRecord<RowOf<R>>],
-    entries: &mut [Offer<RowOf<R>>],
-    call: RulerCall,
-) -> Result<(Plate, Answer<R::Length>), AllocError>
-    ensures { IfOk result (λ done. Steps (length entries.old) (state plate cells.old groups.old first.old second.old) (said done.1) (state done.0 cells.new groups.new first.new second.new) R.Length.kind R.Length.rows (R.Gauge.crossing ruler.now) (Some (R.Ruler.ruling ruler.now).sum) call) }
-{
-    match call {
-        RulerCall::Plain(call) => carry_out(
-            alloc, ruler, plate, cells, groups, first, second, entries, call,
-        ),
-        RulerCall::Gap => {
-            let answer = gap(ruler, &plate, first, second);
-            Ok((plate, answer))
-        }
-        RulerCall::Route { room } => {
-            let answer = route(alloc, ruler, &plate, first, second, room)?;
-            Ok((plate, answer))
+// The calls of a run over a ruler.
+#[derive(Drop)]
+pub(crate) struct ByRuler<'a, R> {
+    pub(crate) ruler: &'a R,
+}
+
+impl<R: Ruler> Caller for ByRuler<'_, R> {
+    type Length = R::Length;
+
+    type Call = RulerCall;
+
+    ghost crossing = { λ by. R.Gauge.crossing by.ruler.now };
+
+    ghost sums = { λ by. Some (R.Ruler.ruling by.ruler.now).sum };
+
+    ghost as_call = { λ call. call };
+
+    fn carry_out(
+        &self,
+        alloc: Global,
+        plate: Plate,
+        cells: &mut [Cell],
+        groups: &mut [u8],
+        first: &mut [MapRecord<RowOf<R>>],
+        second: &mut [MapRecord<RowOf<R>>],
+        entries: &mut [Offer<RowOf<R>>],
+        call: RulerCall,
+    ) -> Result<(Plate, Answer<R::Length>), AllocError> {
+        match call {
+            RulerCall::Plain(call) => carry_out(
+                alloc, self.ruler, plate, cells, groups, first, second, entries, call,
+            ),
+            RulerCall::Gap => {
+                let answer = gap(self.ruler, &plate, first, second);
+                Ok((plate, answer))
+            }
+            RulerCall::Route { room } => {
+                let answer = route(alloc, self.ruler, &plate, first, second, room)?;
+                Ok((plate, answer))
+            }
         }
     }
 }

@@ -1,5 +1,5 @@
 // One call on a plate and its tables, by the plate's own call.
-ghost use Rattle.std.specs.Prelude.{◌≡◌, ℕ, List, Option, Ok, IfOk, cond, ◌==◌, length};
+ghost use Rattle.std.specs.Prelude.{◌≡◌, ℕ, List, Option, None, Ok, IfOk, cond, ◌==◌, length};
 ghost use Rattle.board.specs.declared.record.MapRecord.{MapRecord as TheRecord};
 ghost use Rattle.runs.specs.Plates.{OnCells, OnGroups, OnMaps, PlainStep, state};
 ghost use Rattle.runs.specs.Said.{said};
@@ -8,6 +8,7 @@ ghost use Rattle.runs.specs.Steps.{Steps, telling};
 ghost use Rattle.runs.specs.declared.call.Call.TheVariants as call;
 ghost use Rattle.runs.specs.declared.call.RulerCall.TheVariants.{Plain};
 
+use crate::callers::Caller;
 use crate::plates::Plate;
 use crate::{Answer, Call};
 use board::{Cell, MapRecord, Refusal};
@@ -222,4 +223,38 @@ pub(crate) fn carry_out<G: Gauge>(
         Call::Break => return Ok(break_seal(plate)),
     };
     Ok((plate, answer))
+}
+
+// The calls of a run over a gauge.
+#[derive(Drop)]
+pub(crate) struct ByGauge<'a, G> {
+    pub(crate) gauge: &'a G,
+}
+
+impl<G: Gauge> Caller for ByGauge<'_, G> {
+    type Length = G::Length;
+
+    type Call = Call;
+
+    ghost crossing = { λ by. G.Gauge.crossing by.gauge.now };
+
+    ghost sums = { λ _. None };
+
+    ghost as_call = { Plain };
+
+    fn carry_out(
+        &self,
+        alloc: Global,
+        plate: Plate,
+        cells: &mut [Cell],
+        groups: &mut [u8],
+        first: &mut [MapRecord<RowOf<G>>],
+        second: &mut [MapRecord<RowOf<G>>],
+        entries: &mut [Offer<RowOf<G>>],
+        call: Call,
+    ) -> Result<(Plate, Answer<G::Length>), AllocError> {
+        carry_out(
+            alloc, self.gauge, plate, cells, groups, first, second, entries, call,
+        )
+    }
 }
