@@ -8,3 +8,4 @@ pub mod Measures
 pub mod Readings
 pub mod Laws
 pub mod Lent
+pub mod Happenings
