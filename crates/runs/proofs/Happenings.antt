@@ -25,10 +25,10 @@ so_far as_call calls answers i = happened (map as_call (take i calls)) (map said
 pub leads_on : {L R C : Type 0} (kind : Kind L) (rows : Rows L R) (g : Crossing L) (sums : Option (L → L → L)) (entries entries' : ℕ) (start mid s : State R) (as_call : C → RulerCall) (calls : List C) (answers : List (Answer L)) (i : ℕ) (call : C) (answer : Answer L) → i < length calls → length answers ≡ i → call ≡ get_or calls i call → entries' ≡ entries → Leads kind rows g sums entries start (so_far as_call calls answers i) mid → Steps entries' mid (said answer) s kind rows g sums (as_call call) → Leads kind rows g sums entries start (so_far as_call calls (answers ++ answer ∷ []) (i + 1)) s
 leads_on kind rows g sums entries entries' start mid s as_call calls answers i call answer lt long is same leads step =
     let grown : so_far as_call calls (answers ++ answer ∷ []) (i + 1) ≡ record { call = as_call call; answer = said answer } ∷ so_far as_call calls answers i =
-        (λ k. happened (map as_call (take_more calls i call lt k)) (map-append said answers (answer ∷ []) k) [])
-        ∙ (λ k. happened (map as_call (take i calls ++ sym is k ∷ [])) (map said answers ++ said answer ∷ []) [])
-        ∙ (λ k. happened (map-append as_call (take i calls) (call ∷ []) k) (map said answers ++ said answer ∷ []) [])
-        ∙ happened_more (map as_call (take i calls)) (map said answers) (as_call call) (said answer) [] (omega (arith, length-map (take i calls) as_call, length-map answers said, length-take i calls)) in
+    (λ k. happened (map as_call (take_more calls i call lt k)) (map-append said answers (answer ∷ []) k) [])
+    ∙ (λ k. happened (map as_call (take i calls ++ sym is k ∷ [])) (map said answers ++ said answer ∷ []) [])
+    ∙ (λ k. happened (map-append as_call (take i calls) (call ∷ []) k) (map said answers ++ said answer ∷ []) [])
+    ∙ happened_more (map as_call (take i calls)) (map said answers) (as_call call) (said answer) [] (omega (arith, length-map (take i calls) as_call, length-map answers said, length-take i calls)) in
     subst (λ history. Leads kind rows g sums entries start history s) (sym grown) (mid, leads, subst (λ n. Steps n mid (said answer) s kind rows g sums (as_call call)) same step)
 
 -- all calls

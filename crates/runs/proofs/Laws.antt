@@ -69,8 +69,7 @@ module _ {L R : Type 0} (kind : Kind L) (rows : Rows L R) (laws : KindLaws kind 
       runs [] s is = (tt, subst (Stands kind rows g size (λ group. false) false (on size (replicate (area size) bare_cell) (replicate 64 0))) (sym is) opened, ap (rooms_of entries) is)
       runs (e ∷ before) s (mid, leads, step) =
           let so_far = runs before mid leads in
-          let next = step_from (current before) (sealed before) (ledger size before) mid so_far.1 e.call e.answer s step in
-          (
+          let next = step_from (current before) (sealed before) (ledger size before) mid so_far.1 e.call e.answer s step in (
             (so_far.0, subst (λ rooms. Judged (allowed (sealed before) e.call) (sent_back rooms size (current before) e.call) e.answer (Answers kind g (ledger size before) e.call e.answer)) so_far.2 next.truth),
             next.after,
             next.same_rooms ∙ so_far.2,
@@ -87,17 +86,17 @@ module _ {L R : Type 0} (kind : Kind L) (rows : Rows L R) (g : Crossing L) where
       let n_is : r * c ≡ area size = λ k. sym (ap (λ s. s.rows) size_is ∙ fresh.size.rows) k * sym (ap (λ s. s.columns) size_is ∙ fresh.size.columns) k in
       let bare = replicate (area size) bare_cell in
       let cells_are : start.cells ≡ bare ++ drop (area size) starts.cells =
-          starts.opens.all_bare
-          ∙ ap (λ e. after e starts.cells (replicate (r * c) bare_cell ++ drop (r * c) starts.cells)) none
-          ∙ ap (λ n. replicate n bare_cell ++ drop n starts.cells) n_is in
+      starts.opens.all_bare
+      ∙ ap (λ e. after e starts.cells (replicate (r * c) bare_cell ++ drop (r * c) starts.cells)) none
+      ∙ ap (λ n. replicate n bare_cell ++ drop n starts.cells) n_is in
       let groups_are : start.groups ≡ replicate 64 0 ++ drop 64 starts.groups =
-          starts.opens.no_groups ∙ ap (λ e. after e starts.groups (replicate 64 0 ++ drop 64 starts.groups)) none in
+      starts.opens.no_groups ∙ ap (λ e. after e starts.groups (replicate 64 0 ++ drop 64 starts.groups)) none in
       let long = length-replicate (area size) bare_cell in
       let long_groups = length-replicate {A = ℕ} 64 0 in
       let cells_front : take (area size) start.cells ≡ bare =
-          ap (take (area size)) cells_are ∙ ap (λ n. take n (bare ++ drop (area size) starts.cells)) (sym long) ∙ take-append_seam bare (drop (area size) starts.cells) in
+      ap (take (area size)) cells_are ∙ ap (λ n. take n (bare ++ drop (area size) starts.cells)) (sym long) ∙ take-append_seam bare (drop (area size) starts.cells) in
       let groups_front : take 64 start.groups ≡ replicate 64 0 =
-          ap (take 64) groups_are ∙ ap (λ n. take n (replicate 64 0 ++ drop 64 starts.groups)) (sym long_groups) ∙ take-append_seam (replicate 64 0) (drop 64 starts.groups) in
+      ap (take 64) groups_are ∙ ap (λ n. take n (replicate 64 0 ++ drop 64 starts.groups)) (sym long_groups) ∙ take-append_seam (replicate 64 0) (drop 64 starts.groups) in
       record {
         cells = start.cells;
         groups = start.groups;

@@ -9,3 +9,4 @@ pub mod Readings
 pub mod Laws
 pub mod Lent
 pub mod Happenings
+pub mod Openings

@@ -57,9 +57,9 @@ module _ {L R : Type 0} (rows : Rows L R) (m : Measuring L) (map : List (MapReco
         (λ reached.
         let w = way_of rows m laws lawful fits j reached in
         let is : cells ≡ cond (ltb room (length (j ∷ w.cells))) (Err Short) (Ok (j ∷ w.cells)) =
-            cond-true _ _ _ (ap (λ r. r.reached) here ∙ reached)
-            ∙ ap (λ map. fitting_way room (way_within (rows.encode m.kind.zero) map (area m.board.size) j)) held
-            ∙ ap (fitting_way room) w.linked in
+        cond-true _ _ _ (ap (λ r. r.reached) here ∙ reached)
+        ∙ ap (λ map. fitting_way room (way_within (rows.encode m.kind.zero) map (area m.board.size) j)) held
+        ∙ ap (fitting_way room) w.linked in
         inl (record {
           behind = w.cells;
           right = way_back rows m laws lawful fits j lt reached;

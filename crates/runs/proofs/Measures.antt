@@ -94,7 +94,7 @@ module _ {L R : Type 0} (kind : Kind L) (rows : Rows L R) (laws : KindLaws kind 
     measured_first back enough step =
         let told = step.told ∙ ap (telling measured) step.exact.answer ∙ ap measured (counted_same kind rows laws g lawful size cells groups holds.fits 1) in
         let state : s' ≡ record (stands size now false cells groups first second) { header = record { size = size; first = now 1 || true; second = now 2 || false }; first = s'.first } =
-            step.rest ∙ λ k. record (stands size now false cells groups first second) { header = (step.measures.header k).header; first = s'.first } in
+        step.rest ∙ λ k. record (stands size now false cells groups first second) { header = (step.measures.header k).header; first = s'.first } in
         subst (λ answer. Onward kind rows g size entries now false cells groups first second (Plain (Measure 1)) answer s') (sym told)
         (record {
           truth = right_truth _ _ _ _ refl back refl;
@@ -121,7 +121,7 @@ module _ {L R : Type 0} (kind : Kind L) (rows : Rows L R) (laws : KindLaws kind 
     measured_second back enough step =
         let told = step.told ∙ ap (telling measured) step.exact.answer ∙ ap measured (counted_same kind rows laws g lawful size cells groups holds.fits 2) in
         let state : s' ≡ record (stands size now false cells groups first second) { header = record { size = size; first = now 1 || false; second = now 2 || true }; second = s'.second } =
-            step.rest ∙ λ k. record (stands size now false cells groups first second) { header = (step.measures.header k).header; second = s'.second } in
+        step.rest ∙ λ k. record (stands size now false cells groups first second) { header = (step.measures.header k).header; second = s'.second } in
         subst (λ answer. Onward kind rows g size entries now false cells groups first second (Plain (Measure 2)) answer s') (sym told)
         (record {
           truth = right_truth _ _ _ _ refl back refl;

@@ -152,11 +152,11 @@ module _ {L R : Type 0} (rows : Rows L R) (m : Measuring L) (laws : KindLaws m.k
     nearest_shown j lt answer is =
         ⊎_elim
         (λ reached. (
-        is ∙ cond-true _ _ _ reached ∙ ap Some (known_shown j reached) ∙ sym (pad_shown j reached),
-        subst (λ o. MatchOption o (NoPath m j) (λ p. (a : L) × Shortest m j a)) (sym (pad_shown j reached)) (rows.decode (measured rows m j).length, shortest j lt reached),
+          is ∙ cond-true _ _ _ reached ∙ ap Some (known_shown j reached) ∙ sym (pad_shown j reached),
+          subst (λ o. MatchOption o (NoPath m j) (λ p. (a : L) × Shortest m j a)) (sym (pad_shown j reached)) (rows.decode (measured rows m j).length, shortest j lt reached),
         ))
         (λ unreached. (
-        is ∙ cond-false _ _ _ unreached ∙ sym (no_pad_shown j lt unreached),
-        subst (λ o. MatchOption o (NoPath m j) (λ p. (a : L) × Shortest m j a)) (sym (no_pad_shown j lt unreached)) (no_path j lt unreached),
+          is ∙ cond-false _ _ _ unreached ∙ sym (no_pad_shown j lt unreached),
+          subst (λ o. MatchOption o (NoPath m j) (λ p. (a : L) × Shortest m j a)) (sym (no_pad_shown j lt unreached)) (no_path j lt unreached),
         ))
         (cases_Bool (measured rows m j).reached)

@@ -65,7 +65,7 @@ module _ {L R : Type 0} (kind : Kind L) (rows : Rows L R) (laws : KindLaws kind 
     reading_same =
         (λ k. refuse (ltb (sym (some_length (group == 1) first second) k) (area size)) Tables (refuse (off size row column) Off (refuse (no_group group) Group (refuse (not (now group)) Outdated None))))
         ∙ ap (λ rest. refuse (ltb (length (cond (group == 1) first second)) (area size)) Tables (refuse (off size row column) Off rest))
-          (grouped (no_group group) (now group) (cond (group == 1) (now 1) (now 2)) (λ some. sym (flag_is now group some)))
+        (grouped (no_group group) (now group) (cond (group == 1) (now 1) (now 2)) (λ some. sym (flag_is now group some)))
 
     module _ (none : reading_refusal (stands size now is_sealed cells groups first second).header (length (cond (group == 1) first second)) row column group ≡ None) where
       on_plate : cell_at size row column < area size
@@ -148,12 +148,12 @@ module _ {L R : Type 0} (kind : Kind L) (rows : Rows L R) (laws : KindLaws kind 
         let behind = drop (area size) step.marks in
         let table : step.marks_after ≡ marks ++ behind = step.routes.table ∙ ap (λ r. after r step.marks (marks ++ behind)) refused_so in
         let front : take (area size) step.marks_after ≡ marks =
-            ap (take (area size)) table
-            ∙ ap (λ n. take n (marks ++ behind)) (sym (marks_length kind rows ruler.sum first second (area size)))
-            ∙ take-append_seam marks behind in
+        ap (take (area size)) table
+        ∙ ap (λ n. take n (marks ++ behind)) (sym (marks_length kind rows ruler.sum first second (area size)))
+        ∙ take-append_seam marks behind in
         let told =
-            step.told ∙ ap (telling (route (take (area size) step.marks_after))) (step.routes.answer ∙ ap (λ r. answering r (marked kind rows ruler.sum first second (area size))) refused_so)
-            ∙ ap (λ marks. route marks (marked kind rows ruler.sum first second (area size))) front in
+        step.told ∙ ap (telling (route (take (area size) step.marks_after))) (step.routes.answer ∙ ap (λ r. answering r (marked kind rows ruler.sum first second (area size))) refused_so)
+        ∙ ap (λ marks. route marks (marked kind rows ruler.sum first second (area size))) front in
         let both = (refuse_none _ Tables _ back).1 in
         subst (λ answer. Onward kind rows g size entries now is_sealed cells groups first second (Route room) answer s') (sym told)
         (stays kind rows g size entries now is_sealed cells groups first second holds (Route room) (route marks (marked kind rows ruler.sum first second (area size))) s' step.rest refl refl refl

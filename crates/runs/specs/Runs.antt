@@ -5,10 +5,11 @@ use Rattle.board.specs.Sizes.{Sized, bad_size}
 use Rattle.board.specs.declared.refusal.Refusal.{Refusal}
 use Rattle.board.specs.declared.refusal.Refusal.TheVariants.{Size as BadSize, Tables}
 use Rattle.board.specs.declared.size.Size.{Size}
-use Rattle.lengths.specs.Kinds.{Kind}
+use Rattle.lengths.specs.Kinds.{Kind, Rows}
 use Rattle.gauges.specs.Meanings.{Crossing}
 use Rattle.runs.specs.Said.{Said}
 use Rattle.runs.specs.Histories.{Event}
+use Rattle.runs.specs.Steps.{Leads, Starts, State, rooms_of}
 use Rattle.runs.specs.Truths.{Rooms, Truthful}
 use Rattle.runs.specs.declared.call.RulerCall.{RulerCall}
 use Rattle.runs.specs.declared.stopped.Stopped.{Stopped}
@@ -29,6 +30,16 @@ abbrev pub opening_back : Rooms → ℕ → ℕ → Option Refusal
 opening_back rooms r c =
     refuse (bad_size r c) BadSize
     (refuse (nat_lt rooms.cells (r * c) || nat_lt rooms.groups 64) Tables None)
+
+-- a plate is opened over tables of these lengths, and the calls lead on from there
+pub record Ran {L R : Type 0} (lent : Rooms) (r c : ℕ) (kind : Kind L) (rows : Rows L R) (g : Crossing L) (sums : Option (L → L → L)) (calls : List RulerCall) (answers : List (Said L)) : Type 0 where
+  pub opened : opening_back lent r c ≡ None
+  pub all : length answers ≡ length calls
+  pub start : State R
+  pub starts : Starts r c start
+  pub same_rooms : rooms_of lent.entries start ≡ lent
+  pub after : State R
+  pub leads : Leads kind rows g sums lent.entries start (happened calls answers []) after
 
 -- a plate of this size is opened, and every call has an answer that is true at that moment
 pub record Answered {L : Type 0} (rooms : Rooms) (r c : ℕ) (kind : Kind L) (gauge : Crossing L) (calls : List RulerCall) (answers : List (Said L)) : Type 0 where

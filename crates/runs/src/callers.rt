@@ -6,8 +6,8 @@ ghost use Rattle.runs.specs.Said.{said};
 ghost use Rattle.runs.specs.Steps.{Steps};
 ghost use Rattle.runs.specs.declared.call.RulerCall.{RulerCall};
 
-use crate::plates::Plate;
 use crate::Answer;
+use crate::plates::Plate;
 use board::{Cell, MapRecord};
 use lengths::Length;
 use queue::Offer;

@@ -1,15 +1,22 @@
 // A list of calls on a plate just opened.
 ghost use Rattle.std.specs.Prelude.{◌≡◌, List, [], Ok, IfOk, MatchResult, length, map};
 ghost use Rattle.runs.specs.Plates.{state};
-ghost use Rattle.runs.specs.Runs.{happened};
+ghost use Rattle.runs.specs.Runs.{Answered, Ran, Stops, happened, opening_back, rooms};
 ghost use Rattle.runs.specs.Said.{said};
 ghost use Rattle.runs.specs.Steps.{Leads, State};
+ghost use Rattle.runs.specs.declared.call.RulerCall.TheVariants.{Plain};
+ghost use Rattle.runs.specs.declared.stopped.Stopped.TheVariants as stopped;
 
 use crate::callers::Caller;
 use crate::plates::{Plate, Tables};
-use crate::{Answer, Stopped};
+use crate::ruler_steps::ByRuler;
+use crate::steps::ByGauge;
+use crate::{Answer, Call, RulerCall, Stopped};
 use board::{Cell, MapRecord};
+use gauges::{Gauge, Ruler};
 use lengths::Length;
+use measuring::RowOf;
+use plate::Draft;
 use queue::Offer;
 use std::alloc::{AllocError, Global};
 
@@ -25,7 +32,7 @@ fn carry_out_all<C: Caller>(
     entries: &mut [Offer<<C::Length as Length>::Row>],
     calls: &[C::Call],
 ) -> Result<Vec<Answer<C::Length>>, Stopped>
-    ensures { IfOk result (λ answers. (length answers.items ≡ length calls.now) × ((s : State C.Length.Row) × Leads C.Length.kind C.Length.rows (C.Caller.crossing caller.now) (C.Caller.sums caller.now) (length entries.old) (state plate cells.old groups.old first.old second.old) (happened (map C.Caller.as_call calls.now) (map said answers.items) []) s)) }
+    ensures { MatchResult result (λ answers. (length answers.items ≡ length calls.now) × ((s : State C.Length.Row) × Leads C.Length.kind C.Length.rows (C.Caller.crossing caller.now) (C.Caller.sums caller.now) (length entries.old) (state plate cells.old groups.old first.old second.old) (happened (map C.Caller.as_call calls.now) (map said answers.items) []) s)) (λ e. e ≡ stopped.NoMemory) }
 {
     let mut plate = plate;
     let mut answers = Vec::new(alloc);
@@ -37,4 +44,65 @@ fn carry_out_all<C: Caller>(
         answers.push(answer)?;
     }
     Ok(answers)
+}
+
+// Opens a plate and makes the calls.
+fn open_and_carry_out<C: Caller>(
+    alloc: Global,
+    caller: &C,
+    rows: u16,
+    columns: u16,
+    tables: Tables<'_, <C::Length as Length>::Row>,
+    calls: &[C::Call],
+) -> Result<Vec<Answer<C::Length>>, Stopped>
+    ensures { let lent = rooms tables.entry.cells.now tables.entry.groups.now tables.entry.first.now tables.entry.second.now tables.entry.entries.now in MatchResult result (λ answers. Ran lent rows columns C.Length.kind C.Length.rows (C.Caller.crossing caller.now) (C.Caller.sums caller.now) (map C.Caller.as_call calls.now) (map said answers.items)) (Stops (opening_back lent rows columns)) }
+{
+    let Tables {
+        cells,
+        groups,
+        first,
+        second,
+        entries,
+    } = tables;
+    let draft = Draft::open(rows, columns, cells, groups)?;
+    carry_out_all(
+        alloc,
+        caller,
+        Plate::Draft(draft),
+        cells,
+        groups,
+        first,
+        second,
+        entries,
+        calls,
+    )
+}
+
+// Opens a plate over tables of any lengths and any content, and makes the calls one after another by a gauge. Each answer is true of
+// the plate at that moment.
+pub fn run<G: Gauge>(
+    alloc: Global,
+    gauge: &G,
+    rows: u16,
+    columns: u16,
+    tables: Tables<'_, RowOf<G>>,
+    calls: &[Call],
+) -> Result<Vec<Answer<G::Length>>, Stopped>
+    ensures { let lent = rooms tables.entry.cells.now tables.entry.groups.now tables.entry.first.now tables.entry.second.now tables.entry.entries.now in MatchResult result (λ answers. Answered lent rows columns G.Length.kind (G.Gauge.crossing gauge.now) (map Plain calls.now) (map said answers.items)) (Stops (opening_back lent rows columns)) }
+{
+    open_and_carry_out(alloc, &ByGauge { gauge }, rows, columns, tables, calls)
+}
+
+// The same by a ruler, with the gap and the route among the calls.
+pub fn run_by_ruler<R: Ruler>(
+    alloc: Global,
+    ruler: &R,
+    rows: u16,
+    columns: u16,
+    tables: Tables<'_, RowOf<R>>,
+    calls: &[RulerCall],
+) -> Result<Vec<Answer<R::Length>>, Stopped>
+    ensures { let lent = rooms tables.entry.cells.now tables.entry.groups.now tables.entry.first.now tables.entry.second.now tables.entry.entries.now in MatchResult result (λ answers. Answered lent rows columns R.Length.kind (R.Gauge.crossing ruler.now) calls.now (map said answers.items)) (Stops (opening_back lent rows columns)) }
+{
+    open_and_carry_out(alloc, &ByRuler { ruler }, rows, columns, tables, calls)
 }

@@ -12,6 +12,14 @@ pub enum Stopped {
     NoMemory,
 }
 
+impl From<Refusal> for Stopped {
+    ghost from_gives = { λ refusal end. end ≡ stopped.Refused refusal };
+
+    fn from(refusal: Refusal) -> Stopped {
+        Stopped::Refused(refusal)
+    }
+}
+
 impl From<AllocError> for Stopped {
     ghost from_gives = { λ _ end. end ≡ stopped.NoMemory };
 

@@ -20,25 +20,25 @@ returns g c sums =
     let crossing = g.G.Gauge.crossing c.args.gauge.now in
     let queue = length c.args.entries.now in
     elim c.match-call.branch [
-      in-Set w ↦
+      | in-Set w ↦
           carried g.G.Length.Length.kind g.G.Length.Length.rows crossing queue sums (state c.args.plate c.args.cells.now c.args.groups.now c.args.first.now c.args.second.now) _ _ _ _ _ _ _ _ _ _ _ _ _ _ w.answer-is w.plate-is w.cells-is w.groups-is w.first-is w.second-is w.in-Set.is
           (w.set-answer.ensures crossing c.args.groups.now c.args.first.now c.args.second.now queue sums)
-    | in-Bar w ↦
+      | in-Bar w ↦
           carried g.G.Length.Length.kind g.G.Length.Length.rows crossing queue sums (state c.args.plate c.args.cells.now c.args.groups.now c.args.first.now c.args.second.now) _ _ _ _ _ _ _ _ _ _ _ _ _ _ w.answer-is w.plate-is w.cells-is w.groups-is w.first-is w.second-is w.in-Bar.is
           (w.bar-answer.ensures crossing c.args.groups.now c.args.first.now c.args.second.now queue sums)
-    | in-Enrol w ↦
+      | in-Enrol w ↦
           carried g.G.Length.Length.kind g.G.Length.Length.rows crossing queue sums (state c.args.plate c.args.cells.now c.args.groups.now c.args.first.now c.args.second.now) _ _ _ _ _ _ _ _ _ _ _ _ _ _ w.answer-is w.plate-is w.cells-is w.groups-is w.first-is w.second-is w.in-Enrol.is
           (w.enrol-answer.ensures crossing c.args.cells.now c.args.first.now c.args.second.now queue sums)
-    | in-Measure w ↦
+      | in-Measure w ↦
           carried g.G.Length.Length.kind g.G.Length.Length.rows crossing queue sums (state c.args.plate c.args.cells.now c.args.groups.now c.args.first.now c.args.second.now) _ _ _ _ _ _ _ _ _ _ _ _ _ _ w.answer-is w.plate-is w.cells-is w.groups-is w.first-is w.second-is w.in-Measure.is
           (w.measure-answer.ensures sums)
-    | in-Distance w ↦
+      | in-Distance w ↦
           carried g.G.Length.Length.kind g.G.Length.Length.rows crossing queue sums (state c.args.plate c.args.cells.now c.args.groups.now c.args.first.now c.args.second.now) _ _ _ _ _ _ _ _ _ _ _ _ _ _ w.answer-is w.plate-is w.cells-is w.groups-is w.first-is w.second-is w.in-Distance.is
           (w.distance-answer.ensures crossing c.args.cells.now c.args.groups.now queue sums)
-    | in-Nearest w ↦
+      | in-Nearest w ↦
           carried g.G.Length.Length.kind g.G.Length.Length.rows crossing queue sums (state c.args.plate c.args.cells.now c.args.groups.now c.args.first.now c.args.second.now) _ _ _ _ _ _ _ _ _ _ _ _ _ _ w.answer-is w.plate-is w.cells-is w.groups-is w.first-is w.second-is w.in-Nearest.is
           (w.nearest-answer.ensures crossing c.args.cells.now c.args.groups.now queue sums)
-    | in-Way+in_ok-answer-in-Way w ↦
+      | in-Way+in_ok-answer-in-Way w ↦
           carried g.G.Length.Length.kind g.G.Length.Length.rows crossing queue sums (state c.args.plate c.args.cells.now c.args.groups.now c.args.first.now c.args.second.now) _ _ _ _ _ _ _ _ _ _ _ _ _ _ w.answer-is w.plate-is w.cells-is w.groups-is w.first-is w.second-is w.in-Way.is
           (w.in_ok-answer-in-Way.ensures crossing c.args.cells.now c.args.groups.now queue sums)
     ]
