@@ -8,15 +8,17 @@ pub mod call;
 mod callers;
 pub mod plates;
 mod ruler_steps;
-pub mod run;
+pub mod running;
 mod steps;
 pub mod stopped;
 
 pub use answer::Answer;
 pub use call::{Call, RulerCall};
-use lengths::Length;
 pub use plates::Tables;
+pub use running::{run, run_by_ruler};
 pub use stopped::Stopped;
+
+use lengths::Length;
 
 // Over every lawful gauge, whoever makes the calls and whatever the maps held when the plate was opened.
 pub fn calls_tell_the_truth<K: Length>()

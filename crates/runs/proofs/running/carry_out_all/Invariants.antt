@@ -3,7 +3,7 @@ use Rattle.std.proofs.Common.{◌≡◌, length}
 use Rattle.runs.specs.Plates.{state}
 use Rattle.runs.specs.Steps.{Leads}
 use Rattle.runs.proofs.Happenings.{so_far}
-use Rattle.runs.proofs.run.carry_out_all.Given as goal
+use Rattle.runs.proofs.running.carry_out_all.Given as goal
 
 abbrev pub invariant-loop-call : goal.invariant-loop-call
 invariant-loop-call g l =

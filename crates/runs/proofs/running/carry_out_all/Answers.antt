@@ -4,7 +4,7 @@ use Rattle.std.proofs.lemmas.List.{length_push}
 use Rattle.runs.specs.Plates.{state}
 use Rattle.runs.specs.Steps.{Leads}
 use Rattle.runs.proofs.Happenings.{all_so_far, leads_on, so_far}
-use Rattle.runs.proofs.run.carry_out_all.Goals as goal
+use Rattle.runs.proofs.running.carry_out_all.Goals as goal
 
 pub loop-call-preserved : goal.loop-call-preserved
 loop-call-preserved g c =

@@ -6,7 +6,7 @@ use Rattle.runs.specs.declared.call.RulerCall.TheVariants.{Plain}
 use Rattle.runs.proofs.Laws.{gauge_runs}
 use Rattle.std.proofs.lemmas.Result.{MatchResult-weaker}
 use Rattle.runs.proofs.Openings.{answered}
-use Rattle.runs.proofs.run.run.Goals as goal
+use Rattle.runs.proofs.running.run.Goals as goal
 
 pub returns : goal.returns
 returns g c =

@@ -3,7 +3,7 @@ use Rattle.std.proofs.Common.{◌≡◌, None, sym, ap, ◌∙◌, subst}
 use Rattle.runs.specs.Runs.{Stops, opening_back, rooms}
 use Rattle.std.proofs.lemmas.Result.{MatchResult-weaker}
 use Rattle.runs.proofs.Openings.{ran}
-use Rattle.runs.proofs.run.open_and_carry_out.Goals as goal
+use Rattle.runs.proofs.running.open_and_carry_out.Goals as goal
 
 pub returns : goal.returns
 returns g c =

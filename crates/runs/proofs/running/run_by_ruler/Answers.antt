@@ -6,7 +6,7 @@ use Rattle.runs.specs.Runs.{Answered, rooms}
 use Rattle.runs.proofs.Laws.{ruler_runs}
 use Rattle.std.proofs.lemmas.Result.{MatchResult-weaker}
 use Rattle.runs.proofs.Openings.{answered}
-use Rattle.runs.proofs.run.run_by_ruler.Goals as goal
+use Rattle.runs.proofs.running.run_by_ruler.Goals as goal
 
 pub returns : goal.returns
 returns g c =

@@ -1,0 +1,294 @@
+// Tests of whole runs: what each call of a list answers, as it is printed.
+#![tactic(auto)]
+
+// The expected answers are worked out from the rules, and not taken from what the library answers.
+#[cfg(test)]
+mod tests {
+    use board::{Cell, MapRecord, Refusal};
+    use gauges::{Chessboard, WholeRuler};
+    use lengths::Whole;
+    use queue::Offer;
+    use runs::{Answer, Call, RulerCall, Stopped, Tables, run, run_by_ruler};
+    use std::alloc::{AllocError, Global};
+    use std::process::Abort;
+    use std::test::Fail;
+
+    const BY_CHESSBOARD: WholeRuler<Chessboard> = WholeRuler(Chessboard);
+
+    // What stands in the maps before a run.
+    const OLD: MapRecord<u64> = MapRecord {
+        length: 7,
+        reached: true,
+        pad: 7,
+        link: 3,
+        rank: 7,
+    };
+
+    // What stands in the cells before a run.
+    const HIGH: Cell = Cell {
+        height: 9,
+        pad: 9,
+        barred: true,
+    };
+
+    const NO_OFFER: Offer<u64> = Offer { length: 0, cell: 0 };
+
+    // A ruler's run on a plate of 1 × 3, over tables that hold something else.
+    fn run_strip(alloc: Global, calls: &[RulerCall]) -> Result<Vec<Answer<Whole>>, Stopped> {
+        let tables = Tables {
+            cells: &mut [HIGH; 4],
+            groups: &mut [2; 64],
+            first: &mut [OLD; 3],
+            second: &mut [OLD; 5],
+            entries: &mut [NO_OFFER; 27],
+        };
+        run_by_ruler(alloc, &BY_CHESSBOARD, 1, 3, tables, calls)
+    }
+
+    // Checks that each answer is printed as wanted, and that there are no others.
+    fn check_answers(
+        rt: &(impl Abort + AllocGlobal),
+        answers: &[Answer<Whole>],
+        wanted: &[&str],
+    ) -> Result<(), AllocError> {
+        assert_eq!(rt; answers.len(), wanted.len());
+        for (answer, want) in answers.iter().zip(wanted) {
+            let printed = format!(in rt.alloc(); "{answer:?}")?;
+            assert_eq!(rt; printed.as_str(), *want);
+        }
+        Ok(())
+    }
+
+    // Heights 0 5 0, pad 1 at the left in group 1 and pad 2 at the right in group 2.
+    const BUILT: [RulerCall; 5] = [
+        RulerCall::Plain(Call::Set {
+            row: 0,
+            column: 0,
+            height: 0,
+            pad: 1,
+        }),
+        RulerCall::Plain(Call::Set {
+            row: 0,
+            column: 1,
+            height: 5,
+            pad: 0,
+        }),
+        RulerCall::Plain(Call::Set {
+            row: 0,
+            column: 2,
+            height: 0,
+            pad: 2,
+        }),
+        RulerCall::Plain(Call::Enrol { pad: 1, group: 1 }),
+        RulerCall::Plain(Call::Enrol { pad: 2, group: 2 }),
+    ];
+
+    const MEASURE_1: RulerCall = RulerCall::Plain(Call::Measure { group: 1 });
+
+    const MEASURE_2: RulerCall = RulerCall::Plain(Call::Measure { group: 2 });
+
+    const DISTANCE: RulerCall = RulerCall::Plain(Call::Distance {
+        row: 0,
+        column: 2,
+        group: 1,
+    });
+
+    const NEAREST: RulerCall = RulerCall::Plain(Call::Nearest {
+        row: 0,
+        column: 2,
+        group: 1,
+    });
+
+    const BAR: RulerCall = RulerCall::Plain(Call::Bar { row: 0, column: 1 });
+
+    fn way(room: usize) -> RulerCall {
+        RulerCall::Plain(Call::Way {
+            row: 0,
+            column: 2,
+            group: 1,
+            room,
+        })
+    }
+
+    // The strip, and then these calls.
+    fn check_strip(
+        rt: &(impl Abort + AllocGlobal),
+        calls: &[RulerCall],
+        wanted: &[&str],
+    ) -> Result<(), Fail> {
+        let mut all = Vec::new(rt.alloc());
+        all.extend_from_slice(&BUILT)?;
+        all.extend_from_slice(calls)?;
+        let answers = run_strip(rt.alloc(), &all)?;
+        assert!(rt; answers.len() >= 5);
+        check_answers(rt, &answers[5..], wanted)?;
+        Ok(())
+    }
+
+    #[test]
+    fn measured_strip_is_read(rt: HostRuntime) -> Result<(), Fail> {
+        check_strip(
+            &rt,
+            &[
+                RulerCall::Gap,
+                MEASURE_1,
+                DISTANCE,
+                NEAREST,
+                way(3),
+                way(2),
+                RulerCall::Gap,
+                MEASURE_2,
+                RulerCall::Gap,
+                RulerCall::Route { room: 4 },
+                RulerCall::Route { room: 2 },
+            ],
+            &[
+                "Refused(Outdated)",
+                "Measured(Counts { reached: 3, steps: 4 })",
+                "Distance(Some(Whole { units: 12 }))",
+                "Nearest(Some(1))",
+                "Way([2, 1, 0])",
+                "Refused(Short)",
+                "Refused(Outdated)",
+                "Measured(Counts { reached: 3, steps: 4 })",
+                "Gap(Some(Whole { units: 12 }))",
+                "Route { marks: [1, 1, 1], count: 3 }",
+                "Refused(Tables)",
+            ],
+        )
+    }
+
+    #[test]
+    fn edits_outdate(rt: HostRuntime) -> Result<(), Fail> {
+        check_strip(
+            &rt,
+            &[
+                MEASURE_1,
+                MEASURE_2,
+                BAR,
+                DISTANCE,
+                MEASURE_1,
+                DISTANCE,
+                NEAREST,
+                way(0),
+                RulerCall::Gap,
+                MEASURE_2,
+                RulerCall::Gap,
+                RulerCall::Route { room: 3 },
+            ],
+            &[
+                "Measured(Counts { reached: 3, steps: 4 })",
+                "Measured(Counts { reached: 3, steps: 4 })",
+                "Done",
+                "Refused(Outdated)",
+                "Measured(Counts { reached: 1, steps: 0 })",
+                "Distance(None)",
+                "Nearest(None)",
+                "Way([])",
+                "Refused(Outdated)",
+                "Measured(Counts { reached: 1, steps: 0 })",
+                "Gap(None)",
+                "Route { marks: [0, 0, 0], count: 0 }",
+            ],
+        )
+    }
+
+    #[test]
+    fn sealed_plates_are_read_only(rt: HostRuntime) -> Result<(), Fail> {
+        check_strip(
+            &rt,
+            &[
+                MEASURE_1,
+                RulerCall::Plain(Call::Seal),
+                RulerCall::Plain(Call::Break),
+                MEASURE_2,
+                RulerCall::Plain(Call::Seal),
+                BAR,
+                MEASURE_1,
+                RulerCall::Plain(Call::Seal),
+                DISTANCE,
+                RulerCall::Plain(Call::Break),
+                RulerCall::Gap,
+            ],
+            &[
+                "Measured(Counts { reached: 3, steps: 4 })",
+                "Refused(Outdated)",
+                "NotAllowed",
+                "Measured(Counts { reached: 3, steps: 4 })",
+                "Done",
+                "NotAllowed",
+                "NotAllowed",
+                "NotAllowed",
+                "Distance(Some(Whole { units: 12 }))",
+                "Done",
+                "Gap(Some(Whole { units: 12 }))",
+            ],
+        )
+    }
+
+    #[test]
+    fn calls_sent_back_change_nothing(rt: HostRuntime) -> Result<(), Fail> {
+        check_strip(
+            &rt,
+            &[
+                MEASURE_1,
+                RulerCall::Plain(Call::Set {
+                    row: 0,
+                    column: 1,
+                    height: 0,
+                    pad: 65,
+                }),
+                RulerCall::Plain(Call::Bar { row: 1, column: 0 }),
+                RulerCall::Plain(Call::Enrol { pad: 0, group: 1 }),
+                RulerCall::Plain(Call::Enrol { pad: 1, group: 3 }),
+                RulerCall::Plain(Call::Measure { group: 3 }),
+                DISTANCE,
+            ],
+            &[
+                "Measured(Counts { reached: 3, steps: 4 })",
+                "Refused(Pad)",
+                "Refused(Off)",
+                "Refused(Pad)",
+                "Refused(Group)",
+                "Refused(Group)",
+                "Distance(Some(Whole { units: 12 }))",
+            ],
+        )
+    }
+
+    // A gauge's run over tables for one cell.
+    fn run_cell(alloc: Global, rows: u16, calls: &[Call]) -> Result<Vec<Answer<Whole>>, Stopped> {
+        let tables = Tables {
+            cells: &mut [HIGH; 1],
+            groups: &mut [2; 64],
+            first: &mut [OLD; 1],
+            second: &mut [OLD; 0],
+            entries: &mut [NO_OFFER; 9],
+        };
+        run(alloc, &BY_CHESSBOARD, rows, 1, tables, calls)
+    }
+
+    #[test]
+    fn runs_by_a_gauge(rt: HostRuntime) -> Result<(), Fail> {
+        let none = run_cell(rt.alloc(), 1, &[])?;
+        assert_eq!(rt; none.len(), 0);
+        let answers = run_cell(
+            rt.alloc(),
+            1,
+            &[Call::Measure { group: 1 }, Call::Measure { group: 2 }],
+        )?;
+        check_answers(
+            &rt,
+            &answers,
+            &[
+                "Measured(Counts { reached: 0, steps: 0 })",
+                "Refused(Tables)",
+            ],
+        )?;
+        let stopped = run_cell(rt.alloc(), 0, &[]).err();
+        assert_eq!(rt; stopped, Some(Stopped::Refused(Refusal::Size)));
+        let stopped = run_cell(rt.alloc(), 2, &[]).err();
+        assert_eq!(rt; stopped, Some(Stopped::Refused(Refusal::Tables)));
+        Ok(())
+    }
+}
