@@ -2,6 +2,7 @@ pub mod Examples
 pub mod Trimmed
 pub mod Moments
 pub mod Ranks
+pub mod Counting
 pub mod Looks
 pub mod Moves
 pub mod Measures

@@ -30,6 +30,7 @@ use Rattle.runs.specs.Truths.{sent_back}
 use Rattle.runs.specs.declared.call.Call.TheVariants.{Measure, Seal, Break}
 use Rattle.runs.specs.declared.call.RulerCall.{RulerCall}
 use Rattle.runs.specs.declared.call.RulerCall.TheVariants.{Plain}
+use Rattle.runs.proofs.Counting.{counts_shown}
 use Rattle.runs.proofs.Trimmed.{trimmed, same_board}
 use Rattle.runs.proofs.Moments.{Held, Holds, Next, stands}
 use Rattle.runs.proofs.Moves.{Onward, idle, refuse_none, right_truth, sent, stays}
@@ -97,7 +98,7 @@ module _ {L R : Type 0} (kind : Kind L) (rows : Rows L R) (laws : KindLaws kind 
         step.rest ∙ λ k. record (stands size now false cells groups first second) { header = (step.measures.header k).header; first = s'.first } in
         subst (λ answer. Onward kind rows g size entries now false cells groups first second (Plain (Measure 1)) answer s') (sym told)
         (record {
-          truth = right_truth _ _ _ _ refl back refl;
+          truth = right_truth _ _ _ _ refl back (counts_shown rows (measuring kind g (trimmed size cells groups) 1) laws lawful holds.fits);
           after = record {
             cells = cells;
             groups = groups;
@@ -124,7 +125,7 @@ module _ {L R : Type 0} (kind : Kind L) (rows : Rows L R) (laws : KindLaws kind 
         step.rest ∙ λ k. record (stands size now false cells groups first second) { header = (step.measures.header k).header; second = s'.second } in
         subst (λ answer. Onward kind rows g size entries now false cells groups first second (Plain (Measure 2)) answer s') (sym told)
         (record {
-          truth = right_truth _ _ _ _ refl back refl;
+          truth = right_truth _ _ _ _ refl back (counts_shown rows (measuring kind g (trimmed size cells groups) 2) laws lawful holds.fits);
           after = record {
             cells = cells;
             groups = groups;

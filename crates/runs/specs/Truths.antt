@@ -1,5 +1,5 @@
 -- What is true of the answer of each call, by the calls before it. Assumes nothing.
-use Rattle.std.specs.Prelude.{◌≡◌, ℕ, ◌<◌, ◌*◌, ◌⊎◌, Bool, true, false, cond, not, ◌||◌, List, [], ◌∷◌, length, map, Some, None, Option, Decides, MatchOption, ◌==◌, nat_lt}
+use Rattle.std.specs.Prelude.{◌≡◌, ℕ, zero, suc, ◌<◌, ◌+◌, ◌*◌, ◌⊎◌, Bool, true, false, cond, not, ◌||◌, List, [], ◌∷◌, length, map, Some, None, Option, Decides, MatchBool, MatchOption, ◌==◌, nat_lt}
 use Rattle.std.specs.List.{range_with_len}
 use Rattle.board.specs.Groups.{no_group}
 use Rattle.board.specs.Refusals.{refuse}
@@ -9,8 +9,7 @@ use Rattle.board.specs.declared.refusal.Refusal.TheVariants.{Tables, Off, Pad, G
 use Rattle.board.specs.declared.size.Size.{Size}
 use Rattle.lengths.specs.Kinds.{Kind}
 use Rattle.gauges.specs.Meanings.{Crossing}
-use Rattle.measuring.specs.Boards.{Board, how_many}
-use Rattle.measuring.specs.Maps.{counts_of}
+use Rattle.measuring.specs.Boards.{Board, how_many, open_neighbours}
 use Rattle.measuring.specs.Paths.{Measuring, Path, PathBetween, measuring}
 use Rattle.geodesics.specs.Least.{Shortest}
 use Rattle.geodesics.specs.Between.{ShortestBetween, OnShortest}
@@ -89,6 +88,20 @@ NoPath {L} m j = (cells : List ℕ) (a : L) → Path m j cells a → ⊥
 abbrev pub NoPathBetween : {L : Type 0} → Measuring L → ℕ → Type 0
 NoPathBetween {L} m other = (j : ℕ) (cells : List ℕ) (a : L) → PathBetween m other j cells a → ⊥
 
+-- the sum of f over the numbers below n
+abbrev pub sum_below : (ℕ → ℕ) → ℕ → ℕ
+sum_below f zero = 0
+sum_below f (suc n) = sum_below f n + f n
+
+-- the cells to which there is a path are counted, and the open neighbours of each of them
+pub record CountsAre {L : Type 0} (m : Measuring L) (answer : Said L) : Type 0 where
+  pub reached : ℕ → Bool
+  pub right : (j : ℕ) → j < area m.board.size → MatchBool (reached j) ((a : L) × Shortest m j a) (NoPath m j)
+  pub is : answer ≡ measured (record {
+    reached = how_many reached (area m.board.size);
+    steps = sum_below (λ j. cond (reached j) (open_neighbours m.board j) 0) (area m.board.size);
+  })
+
 -- a length that is answered is the least of a path to the cell, and none is answered exactly where there is no path
 pub record DistanceIs {L : Type 0} (m : Measuring L) (j : ℕ) (answer : Said L) : Type 0 where
   pub found : Option L
@@ -126,7 +139,7 @@ pub record RouteIs {L : Type 0} (m : Measuring L) (other : ℕ) (answer : Said L
 module _ {L : Type 0} (kind : Kind L) (gauge : Crossing L) (b : Board) where
   -- a call that is carried out, over the board as it stands
   abbrev pub Answers : RulerCall → Said L → Type 0
-  Answers (Plain (Measure group)) answer = answer ≡ measured (counts_of (measuring kind gauge b group))
+  Answers (Plain (Measure group)) answer = CountsAre (measuring kind gauge b group) answer
   Answers (Plain (Distance row column group)) answer = DistanceIs (measuring kind gauge b group) (cell_at b.size row column) answer
   Answers (Plain (Nearest row column group)) answer = NearestIs (measuring kind gauge b group) (cell_at b.size row column) answer
   Answers (Plain (Way row column group room)) answer =
