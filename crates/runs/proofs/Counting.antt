@@ -1,17 +1,17 @@
 -- The counts of measuring are those of the cells to which there is a path. Assumes nothing.
-use Rattle.std.proofs.Common.{◌≡◌, ℕ, zero, suc, ◌+◌, ◌<◌, ◌≤◌, Bool, true, false, cond, eqb, List, [], ◌∷◌, length, sum_by, MatchBool, sym, refl, ap, ◌∙◌, subst, ⊎_elim, arith}
-use Rattle.std.proofs.lemmas.Bool.{cases_Bool, cases_eq, cond-true, cond-false}
+use Rattle.std.proofs.Common.{◌≡◌, ℕ, zero, suc, ◌+◌, ◌<◌, Bool, true, false, cond, List, [], ◌∷◌, sum_by, MatchBool, sym, refl, ap, ◌∙◌, subst, ⊎_elim, arith}
+use Rattle.std.proofs.lemmas.Bool.{cases_eq}
 use Rattle.std.proofs.lemmas.Bool.Decides.{nat_tests}
 use Rattle.std.proofs.lemmas.List.Sums.{sum_by-cons}
 use Rattle.std.specs.List.{AllByRecursion}
 use Rattle.board.specs.Sizes.{area}
-use Rattle.lengths.specs.Kinds.{Kind, Rows, KindLaws}
+use Rattle.lengths.specs.Kinds.{Rows, KindLaws}
 use Rattle.gauges.specs.Meanings.{Lawful}
-use Rattle.measuring.specs.Boards.{how_many, open_neighbours}
+use Rattle.measuring.specs.Boards.{open_neighbours}
 use Rattle.measuring.specs.Maps.{counts_of, reached_count, step_count}
 use Rattle.measuring.specs.Paths.{Measuring}
 use Rattle.measuring.specs.Rankings.{Bid, is_ranked, ranking}
-use Rattle.measuring.proofs.Ranked.{Apart, SoundRanking, ranked_count, ranking_sound}
+use Rattle.measuring.proofs.Ranked.{Apart, ranked_count, ranking_sound}
 use Rattle.geodesics.specs.Fitting.{Fitting}
 use Rattle.geodesics.specs.Least.{Shortest, measured}
 use Rattle.geodesics.proofs.Records.{measured_reached}
@@ -55,8 +55,8 @@ ranked_sum {L} f [] n within apart = sym (sum_none (λ j. cond (is_ranked {L = L
 ranked_sum f (r ∷ rs) n within apart =
     let unranked = apart.0 in
     let more = sum_more (λ j. cond (is_ranked (r ∷ rs) j) (f j) 0) (λ j. cond (is_ranked rs j) (f j) 0) n r.cell (f r.cell) within.0
-        (grind (arith, nat_tests))
-        (λ j lt isnt. grind (arith, nat_tests)) in
+    (grind (arith, nat_tests))
+    (λ j lt isnt. grind (arith, nat_tests)) in
     let before = ranked_sum f rs n within.1 apart.1 in
     omega (arith, before, more, sum_by-cons (λ r. f r.cell) r rs)
 

@@ -1,10 +1,10 @@
 -- The words of histories compute. Assumes nothing.
-use Rattle.std.proofs.Common.{◌≡◌, ℕ, true, false, List, [], ◌∷◌, Some, None, refl}
-use Rattle.board.specs.declared.refusal.Refusal.TheVariants.{Outdated, Tables}
+use Rattle.std.proofs.Common.{◌≡◌, ℕ, true, false, List, [], ◌∷◌, refl}
+use Rattle.board.specs.declared.refusal.Refusal.TheVariants.{Tables}
 use Rattle.runs.specs.Said.{Said}
-use Rattle.runs.specs.Said.Said.{done, measured, refused, not_allowed, way}
+use Rattle.runs.specs.Said.Said.{done, measured, refused}
 use Rattle.runs.specs.Histories.{Event, current, sealed}
-use Rattle.runs.specs.declared.call.Call.TheVariants.{Set, Bar, Enrol, Measure, Seal, Break}
+use Rattle.runs.specs.declared.call.Call.TheVariants.{Bar, Measure, Seal, Break}
 use Rattle.runs.specs.declared.call.RulerCall.{RulerCall}
 use Rattle.runs.specs.declared.call.RulerCall.TheVariants.{Plain}
 

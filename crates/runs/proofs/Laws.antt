@@ -1,5 +1,5 @@
 -- Every list of calls on a plate just opened has answers that are true. Assumes nothing.
-use Rattle.std.proofs.Common.{◌≡◌, ℕ, ◌+◌, ◌*◌, ◌<◌, ◌≤◌, Bool, true, false, List, [], ◌∷◌, ◌++◌, length, get_or, take, drop, replicate, Some, None, Ok, Option, sym, refl, ap, ◌∙◌, subst, arith}
+use Rattle.std.proofs.Common.{◌≡◌, ℕ, ◌*◌, ◌<◌, Bool, false, List, [], ◌∷◌, ◌++◌, length, get_or, take, drop, replicate, Some, None, Option, sym, refl, ap, ◌∙◌, subst, arith}
 use Rattle.std.proofs.lemmas.Bool.{false≢true}
 use Rattle.std.proofs.lemmas.List.{length-append, length-replicate, get_or-replicate}
 use Rattle.std.proofs.Math.Seq.{take-append_seam}
@@ -20,7 +20,6 @@ use Rattle.runs.specs.Truths.{Answers, Judged, Truthful, allowed, sent_back}
 use Rattle.runs.specs.declared.call.Call.TheVariants.{Set, Bar, Enrol, Measure, Distance, Nearest, Way, Seal, Break}
 use Rattle.runs.specs.declared.call.RulerCall.{RulerCall}
 use Rattle.runs.specs.declared.call.RulerCall.TheVariants.{Plain, Gap, Route}
-use Rattle.runs.proofs.Trimmed.{trimmed}
 use Rattle.runs.proofs.Moments.{Holds, Next, Stands, stands}
 use Rattle.runs.proofs.Moves.{Onward, bar_step, enrol_step, set_step}
 use Rattle.runs.proofs.Measures.{break_step, measure_step, seal_step}

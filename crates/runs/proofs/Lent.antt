@@ -1,5 +1,5 @@
 -- Measuring into the map that is lent for a group. Assumes nothing.
-use Rattle.std.proofs.Common.{◌≡◌, ℕ, Bool, true, false, cond, eqb, List, length, Option, Result, sym, ap, subst}
+use Rattle.std.proofs.Common.{◌≡◌, ℕ, true, false, cond, eqb, List, length, Option, Result, sym, subst}
 use Rattle.std.proofs.lemmas.Bool.{eq-eqb, ne_eqb}
 use Rattle.board.specs.Sizes.{area}
 use Rattle.board.specs.declared.cell.Cell.{Cell}
@@ -21,7 +21,7 @@ use Rattle.runs.specs.declared.call.RulerCall.TheVariants.{Plain}
 use Rattle.runs.specs.declared.plates.Plate.{Plate}
 use Rattle.runs.specs.Said.{Said, said}
 use Rattle.runs.specs.Said.Said.{measured}
-use Rattle.runs.specs.Steps.{MeasureStep, State, Steps, draft, map_of, telling}
+use Rattle.runs.specs.Steps.{MeasureStep, State, Steps, map_of, telling}
 
 -- a draft with its tables
 abbrev pub drafted : {R : Type 0} → Draft → List Cell → List ℕ → List (MapRecord R) → List (MapRecord R) → State R

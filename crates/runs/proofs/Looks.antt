@@ -1,6 +1,5 @@
 -- What readings of tables that hold measured maps answer. Assumes nothing.
-use Rattle.std.proofs.Common.{◌≡◌, ℕ, zero, suc, ◌<◌, ◌≤◌, ◌⊎◌, Bool, true, false, cond, eqb, ltb, List, [], ◌∷◌, ◌++◌, length, take, drop, map, Some, None, Ok, Err, Option, Result, Decides, MatchOption, sym, refl, ap, ◌∙◌, subst, ⊎_elim, inl, inr, arith}
-use Rattle.std.specs.List.{range_with_len}
+use Rattle.std.proofs.Common.{◌≡◌, ℕ, zero, suc, ◌<◌, ◌≤◌, ◌⊎◌, Bool, true, false, cond, ltb, List, [], ◌∷◌, length, take, drop, Some, None, Ok, Err, Result, Decides, MatchOption, sym, refl, ap, ◌∙◌, subst, ⊎_elim, inl, inr, arith}
 use Rattle.std.proofs.lemmas.Bool.{cases_Bool, cond-true, cond-false}
 use Rattle.std.proofs.lemmas.List.{get_or-take}
 use Rattle.std.proofs.Math.Seq.{take-append_seam}
@@ -10,21 +9,21 @@ use Rattle.board.specs.Sizes.{area}
 use Rattle.board.specs.Tables.{known_pad}
 use Rattle.board.specs.declared.record.MapRecord.{MapRecord}
 use Rattle.board.specs.declared.refusal.Refusal.{Refusal}
-use Rattle.board.specs.declared.refusal.Refusal.TheVariants.{Short, Torn}
+use Rattle.board.specs.declared.refusal.Refusal.TheVariants.{Short}
 use Rattle.lengths.specs.Kinds.{Kind, Rows, KindLaws}
 use Rattle.gauges.specs.Meanings.{ByAdding, Crossing, Lawful, Ruling, RulerLaws}
-use Rattle.measuring.specs.Boards.{Board, how_many}
+use Rattle.measuring.specs.Boards.{Board}
 use Rattle.measuring.specs.Maps.{measured_map}
 use Rattle.measuring.specs.Paths.{Measuring, measuring}
 use Rattle.measuring.specs.Readings.{distance_at, least, least_sum, length_of, marked, nearest_at, on_route, route_marks, same_length, sum_at, summed, way_from}
 use Rattle.measuring.specs.Ways.{at, way_within}
-use Rattle.plate.specs.Readings.{Walks, fitting_way, how_many_of, written}
+use Rattle.plate.specs.Readings.{Walks, fitting_way}
 use Rattle.geodesics.specs.Between.{OnShortest, ShortestBetween}
 use Rattle.geodesics.specs.Fitting.{Fitting}
 use Rattle.geodesics.specs.Least.{Shortest, measured}
 use Rattle.geodesics.proofs.Gaps.{gap_is_least, route_is_shortest}
 use Rattle.runs.specs.Said.{Said}
-use Rattle.runs.specs.Said.Said.{done, measured as counted, distance, nearest, way, gap, route, refused, not_allowed}
+use Rattle.runs.specs.Said.Said.{distance, nearest, way, gap, route, refused}
 use Rattle.runs.specs.Steps.{telling}
 use Rattle.runs.specs.Truths.{DistanceIs, GapIs, NearestIs, NoPath, NoPathBetween, NoWay, RouteIs, WayIs}
 use Rattle.runs.proofs.Ranks.{distance_shown, nearest_shown, no_path, way_back, way_of}

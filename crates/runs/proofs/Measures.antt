@@ -1,6 +1,5 @@
 -- One step: measuring, seal and break. Assumes nothing.
-use Rattle.std.proofs.Common.{◌≡◌, ℕ, ◌+◌, ◌-◌, ◌*◌, ◌<◌, ◌≤◌, ◌⊎◌, Bool, true, false, cond, not, ◌||◌, ◌==◌, eqb, ltb, List, [], ◌∷◌, ◌++◌, length, take, drop, Some, None, Ok, Err, Option, Result, sym, refl, ap, ◌∙◌, subst, ⊎_elim, inl, inr, arith}
-use Rattle.std.proofs.lemmas.Bool.{both_ways, cases_Bool, cond-true, cond-false, false≢true}
+use Rattle.std.proofs.Common.{◌≡◌, ℕ, ◌*◌, ◌≤◌, ◌⊎◌, Bool, true, false, cond, ◌||◌, ◌==◌, ltb, List, ◌++◌, length, take, drop, Some, None, Option, sym, refl, ap, ◌∙◌, subst, ⊎_elim, arith}
 use Rattle.std.proofs.lemmas.Bool.Decides.{nat_tests}
 use Rattle.std.proofs.lemmas.List.{length-append, length-drop}
 use Rattle.std.proofs.lemmas.List.FromFn.{length-map-range_with_len}
@@ -11,7 +10,7 @@ use Rattle.board.specs.Sizes.{area}
 use Rattle.board.specs.declared.cell.Cell.{Cell}
 use Rattle.board.specs.declared.record.MapRecord.{MapRecord}
 use Rattle.board.specs.declared.refusal.Refusal.{Refusal}
-use Rattle.board.specs.declared.refusal.Refusal.TheVariants.{Tables, Group, Outdated}
+use Rattle.board.specs.declared.refusal.Refusal.TheVariants.{Tables, Group}
 use Rattle.board.specs.declared.size.Size.{Size}
 use Rattle.lengths.specs.Kinds.{Kind, Rows, KindLaws}
 use Rattle.gauges.specs.Meanings.{Crossing, Lawful}
@@ -21,19 +20,17 @@ use Rattle.measuring.specs.Paths.{Measuring, measuring}
 use Rattle.measuring.specs.Rankings.{ranking}
 use Rattle.geodesics.specs.Fitting.{Fitting}
 use Rattle.geodesics.proofs.SameBoards.{one_map, same_counts}
-use Rattle.plate.specs.Maps.{measure_refusal}
 use Rattle.plate.specs.Seals.{seal_refusal}
 use Rattle.runs.specs.Said.{Said}
-use Rattle.runs.specs.Said.Said.{done, measured, refused, not_allowed}
-use Rattle.runs.specs.Steps.{MeasureStep, State, Steps, draft, map_of, rooms_of, telling}
+use Rattle.runs.specs.Said.Said.{done, measured}
+use Rattle.runs.specs.Steps.{MeasureStep, State, Steps, rooms_of, telling}
 use Rattle.runs.specs.Truths.{sent_back}
 use Rattle.runs.specs.declared.call.Call.TheVariants.{Measure, Seal, Break}
-use Rattle.runs.specs.declared.call.RulerCall.{RulerCall}
 use Rattle.runs.specs.declared.call.RulerCall.TheVariants.{Plain}
 use Rattle.runs.proofs.Counting.{counts_shown}
 use Rattle.runs.proofs.Trimmed.{trimmed, same_board}
-use Rattle.runs.proofs.Moments.{Held, Holds, Next, stands}
-use Rattle.runs.proofs.Moves.{Onward, idle, refuse_none, right_truth, sent, stays}
+use Rattle.runs.proofs.Moments.{Held, Holds, stands}
+use Rattle.runs.proofs.Moves.{Onward, idle, refuse_none, right_truth, sent}
 
 pub one_or_two : (group : ℕ) → no_group group ≡ false → (group ≡ 1) ⊎ (group ≡ 2)
 one_or_two group h = grind (arith, nat_tests)

@@ -1,5 +1,5 @@
 -- A state of header and tables in which what is said of the calls so far holds. Assumes nothing.
-use Rattle.std.proofs.Common.{◌≡◌, ℕ, ◌<◌, ◌≤◌, Bool, true, false, cond, List, ◌∷◌, length, take, Some, None, Option, sym, refl, ap, ◌∙◌, subst}
+use Rattle.std.proofs.Common.{◌≡◌, ℕ, ◌≤◌, Bool, true, cond, List, length, take}
 use Rattle.board.specs.Sizes.{area}
 use Rattle.board.specs.declared.cell.Cell.{Cell}
 use Rattle.board.specs.declared.record.MapRecord.{MapRecord}
@@ -11,10 +11,9 @@ use Rattle.measuring.specs.Maps.{measured_map}
 use Rattle.measuring.specs.Paths.{measuring}
 use Rattle.geodesics.specs.Fitting.{Fitting}
 use Rattle.runs.specs.Said.{Said, accepted}
-use Rattle.runs.specs.Said.Said.{refused, not_allowed}
 use Rattle.runs.specs.Histories.{edited, measures, seals}
 use Rattle.runs.specs.Steps.{State, rooms_of}
-use Rattle.runs.specs.Truths.{Answers, Judged, Rooms, allowed, sent_back}
+use Rattle.runs.specs.Truths.{Answers, Judged, allowed, sent_back}
 use Rattle.runs.specs.declared.call.RulerCall.{RulerCall}
 use Rattle.runs.proofs.Trimmed.{trimmed}
 

@@ -1,43 +1,31 @@
 -- One step: edits, measuring, seal and break. Assumes nothing.
-use Rattle.std.proofs.Common.{◌≡◌, ℕ, ◌+◌, ◌-◌, ◌*◌, ◌<◌, ◌≤◌, ◌⊎◌, Bool, true, false, cond, not, ◌||◌, ◌==◌, eqb, ltb, List, [], ◌∷◌, ◌++◌, length, get_or, set, take, drop, Some, None, Ok, Err, Option, Result, sym, refl, ap, ◌∙◌, subst, ⊎_elim, inl, inr, arith}
-use Rattle.std.specs.List.{range_with_len}
-use Rattle.std.proofs.lemmas.Bool.{both_ways, cases_Bool, cond-true, cond-false, eq-eqb, eqb-true, false≢true}
+use Rattle.std.proofs.Common.{◌≡◌, ℕ, ◌-◌, ◌<◌, ◌⊎◌, Bool, true, false, ◌||◌, ◌==◌, eqb, ltb, List, length, get_or, set, take, Some, None, Option, sym, refl, ap, ◌∙◌, subst, ⊎_elim, inl, inr, arith}
+use Rattle.std.proofs.lemmas.Bool.{both_ways, cases_Bool, eq-eqb, eqb-true, false≢true}
 use Rattle.std.proofs.lemmas.Bool.Decides.{nat_tests}
-use Rattle.std.proofs.lemmas.List.{get_or-take, get_or-set_same, get_or-set_other, length-set, length-append, length-drop, length-take}
-use Rattle.std.proofs.Math.Seq.{take-set-lt, take-append_seam}
-use Rattle.std.proofs.lemmas.List.FromFn.{length-map-range_with_len}
-use native.Mathlib.Decide.{dec_lt}
+use Rattle.std.proofs.lemmas.List.{get_or-take, get_or-set_same, get_or-set_other, length-set}
+use Rattle.std.proofs.Math.Seq.{take-set-lt}
 use Rattle.board.proofs.Areas.{cell_within}
-use Rattle.board.specs.Groups.{no_group}
-use Rattle.board.specs.Refusals.{after, answered, refuse}
+use Rattle.board.specs.Refusals.{refuse}
 use Rattle.board.specs.Sizes.{area, cell_at, off}
 use Rattle.board.specs.declared.cell.Cell.{Cell}
 use Rattle.board.specs.declared.record.MapRecord.{MapRecord}
 use Rattle.board.specs.declared.refusal.Refusal.{Refusal}
-use Rattle.board.specs.declared.refusal.Refusal.TheVariants.{Tables, Off, Pad, Group, Outdated}
+use Rattle.board.specs.declared.refusal.Refusal.TheVariants.{Tables, Off, Pad}
 use Rattle.board.specs.declared.size.Size.{Size}
-use Rattle.lengths.specs.Kinds.{Kind, Rows, KindLaws}
-use Rattle.gauges.specs.Meanings.{Crossing, Lawful}
-use Rattle.measuring.specs.Boards.{Board, beyond, cell, on}
-use Rattle.measuring.specs.Maps.{counts_of, measured_map, record_at}
-use Rattle.measuring.specs.Paths.{Measuring, measuring}
-use Rattle.measuring.specs.Rankings.{ranking}
-use Rattle.geodesics.specs.Fitting.{Fitting}
-use Rattle.geodesics.proofs.SameBoards.{one_map, same_counts}
-use Rattle.plate.specs.Edits.{Edits, barred_cell}
-use Rattle.plate.specs.Maps.{measure_refusal}
-use Rattle.plate.specs.Seals.{seal_refusal}
+use Rattle.lengths.specs.Kinds.{Kind, Rows}
+use Rattle.gauges.specs.Meanings.{Crossing}
+use Rattle.measuring.specs.Boards.{beyond, on}
+use Rattle.plate.specs.Edits.{barred_cell}
 use Rattle.runs.specs.Said.{Said}
-use Rattle.runs.specs.Said.Said.{done, measured, refused, not_allowed}
+use Rattle.runs.specs.Said.Said.{done, refused, not_allowed}
 use Rattle.runs.specs.Histories.{measures, seals}
-use Rattle.runs.specs.Steps.{CellEdit, GroupEdit, MeasureStep, State, Steps, draft, map_of, rooms_of, telling}
-use Rattle.runs.specs.Truths.{Answers, Judged, Rooms, allowed, sent_back}
-use Rattle.runs.specs.declared.call.Call.{Call}
-use Rattle.runs.specs.declared.call.Call.TheVariants.{Set, Bar, Enrol, Measure, Seal, Break}
+use Rattle.runs.specs.Steps.{CellEdit, GroupEdit, State, Steps, rooms_of, telling}
+use Rattle.runs.specs.Truths.{Answers, Judged, allowed, sent_back}
+use Rattle.runs.specs.declared.call.Call.TheVariants.{Set, Bar, Enrol}
 use Rattle.runs.specs.declared.call.RulerCall.{RulerCall}
 use Rattle.runs.specs.declared.call.RulerCall.TheVariants.{Plain}
-use Rattle.runs.proofs.Trimmed.{trimmed, same_board}
-use Rattle.runs.proofs.Moments.{Held, Holds, Next, board_after, now_after, sealed_after, stands}
+use Rattle.runs.proofs.Trimmed.{trimmed}
+use Rattle.runs.proofs.Moments.{Holds, Next, board_after, now_after, sealed_after, stands}
 
 abbrev pub did : (L : Type 0) → Said L
 did L = done

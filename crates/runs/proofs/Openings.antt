@@ -1,5 +1,5 @@
 -- A run begins with a plate just opened, and tells the truth from there. Assumes nothing.
-use Rattle.std.proofs.Common.{◌≡◌, ℕ, List, [], length, map, Ok, None, Option, sym, refl, ap, ◌∙◌, subst}
+use Rattle.std.proofs.Common.{◌≡◌, ℕ, List, [], length, map, Ok, Option, sym, refl, ap, ◌∙◌, subst}
 use Rattle.std.proofs.lemmas.List.{length-map}
 use Rattle.board.specs.declared.cell.Cell.{Cell}
 use Rattle.board.specs.declared.record.MapRecord.{MapRecord}
@@ -8,9 +8,9 @@ use Rattle.gauges.specs.Meanings.{Crossing}
 use Rattle.plate.specs.Edits.{Opens}
 use Rattle.plate.specs.declared.header.Draft.{Draft}
 use Rattle.runs.specs.Plates.{state}
-use Rattle.runs.specs.Runs.{Answered, Ran, Stops, happened, opening_back, rooms}
+use Rattle.runs.specs.Runs.{Answered, Ran, happened, rooms}
 use Rattle.runs.specs.Said.{Said, said}
-use Rattle.runs.specs.Steps.{Leads, State, TellsTruth, rooms_of}
+use Rattle.runs.specs.Steps.{Leads, State, TellsTruth}
 use Rattle.runs.specs.Truths.{Rooms, Truthful}
 use Rattle.runs.specs.declared.answer.Answer.{Answer}
 use Rattle.runs.specs.declared.call.RulerCall.{RulerCall}

@@ -1,5 +1,5 @@
 -- The links and pads of a measured map are those of the ranking. Assumes nothing.
-use Rattle.std.proofs.Common.{◌≡◌, ℕ, zero, suc, ◌<◌, ◌≤◌, Bool, true, false, cond, eqb, List, [], ◌∷◌, length, Some, None, Option, MatchBool, MatchOption, sym, refl, ap, ◌∙◌, subst, ⊎_elim, arith}
+use Rattle.std.proofs.Common.{◌≡◌, ℕ, zero, suc, ◌<◌, Bool, true, false, cond, eqb, List, [], ◌∷◌, length, Some, None, Option, MatchBool, MatchOption, sym, refl, ap, ◌∙◌, subst, ⊎_elim, arith}
 use Rattle.std.proofs.lemmas.Bool.{both_ways, cases_Bool, cond-true, cond-false, eqb-true}
 use Rattle.std.proofs.lemmas.Bool.Decides.{nat_tests}
 use Rattle.board.specs.Sizes.{area}
@@ -7,7 +7,7 @@ use Rattle.board.specs.Tables.{known_pad}
 use Rattle.board.specs.declared.record.MapRecord.{MapRecord}
 use Rattle.lengths.specs.Kinds.{Kind, Rows, KindLaws}
 use Rattle.gauges.specs.Meanings.{Lawful}
-use Rattle.measuring.specs.Boards.{Board, source_of, cell}
+use Rattle.measuring.specs.Boards.{Board, source_of}
 use Rattle.measuring.specs.Maps.{ranked_record, record_at, measured_map}
 use Rattle.measuring.specs.Paths.{Measuring}
 use Rattle.measuring.specs.Rankings.{Bid, ranking}

@@ -1,7 +1,6 @@
 -- One step: readings. Assumes nothing.
-use Rattle.std.proofs.Common.{◌≡◌, ℕ, ◌+◌, ◌-◌, ◌*◌, ◌<◌, ◌≤◌, ◌⊎◌, Bool, true, false, cond, not, ◌||◌, ◌==◌, eqb, ltb, List, [], ◌∷◌, ◌++◌, length, take, drop, Some, None, Ok, Err, Option, Result, sym, refl, ap, ◌∙◌, subst, ⊎_elim, inl, inr, arith}
-use Rattle.std.proofs.lemmas.Bool.{both_ways, cases_Bool, cond-true, cond-false, false≢true}
-use Rattle.std.proofs.lemmas.Bool.Decides.{nat_tests}
+use Rattle.std.proofs.Common.{◌≡◌, ℕ, ◌<◌, Bool, true, false, cond, not, ◌||◌, ◌==◌, ltb, List, [], ◌++◌, length, take, drop, Some, None, Ok, Option, sym, refl, ap, ◌∙◌, subst, ⊎_elim}
+use Rattle.std.proofs.lemmas.Bool.{false≢true}
 use Rattle.std.proofs.Math.Seq.{take-append_seam}
 use Rattle.board.specs.Groups.{no_group}
 use Rattle.board.specs.Refusals.{after, answering, refuse}
@@ -13,21 +12,19 @@ use Rattle.board.specs.declared.refusal.Refusal.TheVariants.{Tables, Off, Group,
 use Rattle.board.specs.declared.size.Size.{Size}
 use Rattle.lengths.specs.Kinds.{Kind, Rows, KindLaws}
 use Rattle.gauges.specs.Meanings.{ByAdding, Crossing, Lawful, Ruling, RulerLaws}
-use Rattle.measuring.specs.Boards.{on}
-use Rattle.measuring.specs.Maps.{measured_map}
-use Rattle.measuring.specs.Paths.{Measuring, measuring}
+use Rattle.measuring.specs.Paths.{measuring}
 use Rattle.measuring.specs.Readings.{distance_at, least_sum, marked, nearest_at, route_marks, way_from}
 use Rattle.measuring.specs.Ways.{at}
-use Rattle.plate.specs.Readings.{Walks, compare_refusal, fitting_way, how_many_of, reading_refusal, route_refusal, unless_refused}
+use Rattle.plate.specs.Readings.{compare_refusal, fitting_way, reading_refusal, route_refusal, unless_refused}
 use Rattle.runs.specs.Said.{Said, accepted}
-use Rattle.runs.specs.Said.Said.{done, distance, nearest, way, gap, route, refused, not_allowed}
-use Rattle.runs.specs.Steps.{RouteStep, State, Steps, WayStep, map_of, rooms_of, telling}
-use Rattle.runs.specs.Truths.{Answers, NoWay, WayIs, allowed, reading_back, sent_back}
+use Rattle.runs.specs.Said.Said.{distance, nearest, way, gap, route}
+use Rattle.runs.specs.Steps.{RouteStep, State, Steps, WayStep, rooms_of, telling}
+use Rattle.runs.specs.Truths.{Answers, allowed, reading_back, sent_back}
 use Rattle.runs.specs.declared.call.Call.TheVariants.{Distance, Nearest, Way}
 use Rattle.runs.specs.declared.call.RulerCall.{RulerCall}
 use Rattle.runs.specs.declared.call.RulerCall.TheVariants.{Plain, Gap, Route}
 use Rattle.runs.proofs.Trimmed.{trimmed}
-use Rattle.runs.proofs.Moments.{Held, Holds, Next, board_after, now_after, sealed_after, stands}
+use Rattle.runs.proofs.Moments.{Held, Holds, board_after, now_after, sealed_after, stands}
 use Rattle.runs.proofs.Moves.{Onward, off_within, refuse_none, right_truth, sent, stays}
 use Rattle.runs.proofs.Measures.{one_or_two, some_length}
 use Rattle.runs.proofs.Looks.{distance_held, gap_held, marks_length, nearest_held, route_held, way_held}

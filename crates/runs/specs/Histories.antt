@@ -2,12 +2,10 @@
 -- plate is sealed. Assumes nothing.
 use Rattle.std.specs.Prelude.{ℕ, ◌-◌, Bool, true, false, cond, ◌||◌, List, [], ◌∷◌, replicate, ◌==◌, slice_set}
 use Rattle.board.specs.Sizes.{area, cell_at}
-use Rattle.board.specs.declared.cell.Cell.{Cell}
 use Rattle.board.specs.declared.size.Size.{Size}
 use Rattle.measuring.specs.Boards.{Board, on}
 use Rattle.plate.specs.Edits.{bare_cell, barred_cell}
 use Rattle.runs.specs.Said.{Said, accepted}
-use Rattle.runs.specs.declared.call.Call.{Call}
 use Rattle.runs.specs.declared.call.Call.TheVariants.{Set, Bar, Enrol, Measure, Seal, Break}
 use Rattle.runs.specs.declared.call.RulerCall.{RulerCall}
 use Rattle.runs.specs.declared.call.RulerCall.TheVariants.{Plain}

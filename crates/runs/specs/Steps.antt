@@ -4,7 +4,6 @@ use Rattle.board.specs.Sizes.{area}
 use Rattle.board.specs.declared.cell.Cell.{Cell}
 use Rattle.board.specs.declared.record.MapRecord.{MapRecord}
 use Rattle.board.specs.declared.refusal.Refusal.{Refusal}
-use Rattle.board.specs.declared.size.Size.{Size}
 use Rattle.lengths.specs.Kinds.{Kind, Rows}
 use Rattle.gauges.specs.Meanings.{ByAdding, Crossing, Lawful, Ruling, RulerLaws}
 use Rattle.measuring.specs.Boards.{on}
@@ -22,7 +21,6 @@ use Rattle.runs.specs.Said.Said.{done, measured, distance, nearest, way, gap, ro
 use Rattle.runs.specs.Histories.{Event}
 use Rattle.runs.specs.Truths.{Rooms, Truthful, allowed}
 use Rattle.queue.specs.declared.offer.Offer.{Offer}
-use Rattle.runs.specs.declared.call.Call.{Call}
 use Rattle.runs.specs.declared.call.Call.TheVariants.{Set, Bar, Enrol, Measure, Distance, Nearest, Way, Seal, Break}
 use Rattle.runs.specs.declared.call.RulerCall.{RulerCall}
 use Rattle.runs.specs.declared.call.RulerCall.TheVariants.{Plain, Gap, Route}

@@ -17,7 +17,6 @@ use Rattle.runs.specs.Said.{Said}
 use Rattle.runs.specs.Said.Said.{done, measured, distance, nearest, way, gap, route, refused, not_allowed}
 use Rattle.runs.specs.Histories.{Event, current, ledger, sealed}
 use Rattle.runs.specs.Links.{WayBack, pad_of}
-use Rattle.runs.specs.declared.call.Call.{Call}
 use Rattle.runs.specs.declared.call.Call.TheVariants.{Set, Bar, Enrol, Measure, Distance, Nearest, Way, Seal, Break}
 use Rattle.runs.specs.declared.call.RulerCall.{RulerCall}
 use Rattle.runs.specs.declared.call.RulerCall.TheVariants.{Plain, Gap, Route}

@@ -14,11 +14,10 @@ pub mod stopped;
 
 pub use answer::Answer;
 pub use call::{Call, RulerCall};
+use lengths::Length;
 pub use plates::Tables;
 pub use running::{run, run_by_ruler};
 pub use stopped::Stopped;
-
-use lengths::Length;
 
 // Over every lawful gauge, whoever makes the calls and whatever the maps held when the plate was opened.
 pub fn calls_tell_the_truth<K: Length>()

@@ -1,5 +1,5 @@
 -- The plate is opened over the lent tables. Assumes nothing.
-use Rattle.std.proofs.Common.{◌≡◌, None, sym, ap, ◌∙◌, subst}
+use Rattle.std.proofs.Common.{sym, subst}
 use Rattle.runs.specs.Runs.{Stops, opening_back, rooms}
 use Rattle.std.proofs.lemmas.Result.{MatchResult-weaker}
 use Rattle.runs.proofs.Openings.{ran}

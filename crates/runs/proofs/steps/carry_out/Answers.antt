@@ -1,5 +1,5 @@
 -- Each call is lent its own tables, and the others stay. Assumes nothing.
-use Rattle.std.proofs.Common.{◌≡◌, length}
+use Rattle.std.proofs.Common.{length}
 use Rattle.runs.specs.Plates.{state}
 use Rattle.runs.proofs.Lent.{carried}
 use Rattle.runs.proofs.steps.carry_out.Goals as goal

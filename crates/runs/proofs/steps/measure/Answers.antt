@@ -1,5 +1,4 @@
 -- The map of group 1 is lent for group 1, and the other for any other number. Assumes nothing.
-use Rattle.std.proofs.Common.{◌≡◌}
 use Rattle.runs.proofs.Lent.{lent_first, lent_second}
 use Rattle.runs.proofs.steps.measure.Goals as goal
 
