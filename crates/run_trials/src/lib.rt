@@ -1,6 +1,13 @@
 // Tests of whole runs: what each call of a list answers, as it is printed.
 #![tactic(auto)]
 
+ghost use Rattle.run_trials.specs.Examples.{Examples};
+
+// The words of histories compute, and come to what the rules say.
+pub fn histories_compute()
+    ensures { Examples }
+{}
+
 // The expected answers are worked out from the rules, and not taken from what the library answers.
 #[cfg(test)]
 mod tests {

@@ -1,4 +1,3 @@
-pub mod Examples
 pub mod Trimmed
 pub mod Moments
 pub mod Ranks

@@ -1,0 +1,53 @@
+-- What the words of histories come to on a plate of 1 × 2. Assumes nothing.
+use Rattle.std.specs.Prelude.{◌≡◌, ℕ, true, false, List, [], ◌∷◌, Some, None}
+use Rattle.std.proofs.Common.{lit≤}
+use Rattle.board.specs.declared.cell.Cell.{Cell}
+use Rattle.board.specs.declared.refusal.Refusal.TheVariants.{Off, Outdated, Pad, Tables}
+use Rattle.board.specs.declared.size.Size.{Size}
+use Rattle.plate.specs.Edits.{bare_cell, barred_cell}
+use Rattle.runs.specs.Said.{Said}
+use Rattle.runs.specs.Said.Said.{done, measured, not_allowed, refused}
+use Rattle.runs.specs.Histories.{Event, current, ledger, sealed}
+use Rattle.runs.specs.Truths.{Rooms, allowed, sent_back}
+use Rattle.runs.specs.declared.call.Call.TheVariants.{Set, Bar, Enrol, Measure, Distance, Seal, Break}
+use Rattle.runs.specs.declared.call.RulerCall.{RulerCall}
+use Rattle.runs.specs.declared.call.RulerCall.TheVariants.{Plain, Gap, Route}
+
+abbrev pub pair : Size
+pair = record { rows = 1; columns = 2; some_rows = lit≤ tt; few_rows = lit≤ tt; some_columns = lit≤ tt; few_columns = lit≤ tt }
+
+abbrev pub then : RulerCall → Said ℕ → List (Event ℕ) → List (Event ℕ)
+then call answer before = record { call = call; answer = answer } ∷ before
+
+-- a cell is set, one is barred, and a call is sent back; then both groups are measured
+abbrev pub built : List (Event ℕ)
+built = then (Plain (Bar 0 2)) (refused Off) (then (Plain (Bar 0 1)) done (then (Plain (Set 0 0 7 1)) done []))
+
+abbrev pub measured_both : List (Event ℕ)
+measured_both =
+    then (Plain (Measure 2)) (measured (record { reached = 0; steps = 0 })) (then (Plain (Measure 1)) (measured (record { reached = 0; steps = 0 })) built)
+
+abbrev pub broken : List (Event ℕ)
+broken = then (Plain Break) done (then (Plain Seal) done measured_both)
+
+abbrev pub rooms : Rooms
+rooms = record { cells = 2; groups = 64; first = 2; second = 1; entries = 18 }
+
+pub record Examples : Type 0 where
+  pub cells : (ledger pair broken).cells ≡ record { height = 7; pad = 1; barred = false } ∷ barred_cell ∷ []
+  pub unmeasured : current built 1 ≡ false
+  pub measured_first : current measured_both 1 ≡ true
+  pub measured_second : current measured_both 2 ≡ true
+  pub still_current : current broken 2 ≡ true
+  pub outdated : current (then (Plain (Enrol 1 1)) done broken) 1 ≡ false
+  pub not_outdated : current (then (Plain (Enrol 0 1)) (refused Pad) broken) 1 ≡ true
+  pub is_sealed : sealed (then (Plain Seal) done measured_both) ≡ true
+  pub is_broken : sealed broken ≡ false
+  pub not_sealed : sealed (then (Plain Seal) (refused Outdated) built) ≡ false
+  pub no_edit : allowed true (Plain (Bar 0 0)) ≡ false
+  pub no_break : allowed false (Plain Break) ≡ false
+  pub readings : allowed true (Route 2) ≡ true
+  pub first_of_two : sent_back rooms pair (current built) (Plain (Set 0 2 0 65)) ≡ Some Off
+  pub short_map : sent_back rooms pair (current measured_both) (Plain (Measure 3)) ≡ Some Tables
+  pub looked_up : sent_back rooms pair (current measured_both) (Plain (Distance 0 0 1)) ≡ None
+  pub both_maps : sent_back (record { cells = 2; groups = 64; first = 2; second = 2; entries = 18 }) pair (current built) Gap ≡ Some Outdated
