@@ -1,0 +1,86 @@
+// Compares the library with a second implementation on boards from a fixed generator, and prints a line for each family of boards:
+// how many there are, and how much differs.
+#![tactic(auto)]
+
+mod calls;
+mod compare;
+mod dice;
+mod families;
+mod land;
+mod library;
+mod look;
+mod recipe;
+mod second;
+mod sheet;
+
+use dice::Dice;
+use ending::{Stop, finish};
+use families::{Kind, boards_of, limits, stacks, tampered};
+use std::io;
+
+fn print_family(rt: &impl Print, name: &str, count: u64, differences: u64) -> io::Result<()> {
+    println!(rt; "{name}\t{count}\tdifferences {differences}")
+}
+
+// Boards of one kind by the four rulers.
+fn run_kind(
+    rt: &(impl Print + AllocGlobal),
+    dice: &mut Dice,
+    name: &str,
+    of: Kind,
+) -> Result<(), Stop> {
+    let differences = boards_of(rt.alloc(), dice, of, 60)?;
+    print_family(rt, name, 60, differences)?;
+    Ok(())
+}
+
+fn run(rt: &(impl Print + AllocGlobal)) -> Result<(), Stop> {
+    let mut dice = Dice::new(20_26);
+    run_kind(rt, &mut dice, "flat boards", Kind::Flat)?;
+    run_kind(rt, &mut dice, "rough boards", Kind::Rough)?;
+    run_kind(rt, &mut dice, "mazes", Kind::Maze)?;
+    run_kind(rt, &mut dice, "stripes", Kind::Stripes)?;
+    run_kind(rt, &mut dice, "steep boards", Kind::Steep)?;
+    print_family(
+        rt,
+        "stacks of layers",
+        40,
+        stacks(rt.alloc(), &mut dice, 40)?,
+    )?;
+    print_family(
+        rt,
+        "tampered maps",
+        80,
+        tampered(rt.alloc(), &mut dice, 80)?,
+    )?;
+    print_family(
+        rt,
+        "boards at the limits",
+        4,
+        limits(rt.alloc(), &mut dice)?,
+    )?;
+    print_family(
+        rt,
+        "plates of 40 calls",
+        400,
+        calls::plates(&mut dice, 400, 40),
+    )?;
+    print_family(
+        rt,
+        "sheets",
+        1000,
+        sheet::sheets(rt.alloc(), &mut dice, 1000)?,
+    )?;
+    print_family(
+        rt,
+        "sheets of the greatest length",
+        3,
+        sheet::long_sheets(rt.alloc())?,
+    )?;
+    print_family(rt, "settings and rectangles", 41, calls::settings()?)?;
+    Ok(())
+}
+
+fn main(rt: HostRuntime) -> io::Result<()> {
+    finish(&rt, run(&rt))
+}
