@@ -1,0 +1,98 @@
+// What the input asks for: a plate, and calls on it up to the first fault.
+ghost use Rattle.std.specs.Prelude.{◌≤◌, length};
+
+use crate::calls::{call_of, read_call};
+use board::{Cell, Refusal};
+use ending::Stop;
+use runs::RulerCall;
+use sheets::{Fault, Keyword, SheetReader, open_plate};
+use std::alloc::{AllocError, Global};
+
+// The longest input, in bytes, as a sheet's.
+const LONGEST: usize = 32768;
+
+// The plate's rows and columns once its line is read, the calls so far, and how many lines they took.
+#[derive(Drop)]
+pub struct Script {
+    pub size: Option<(u16, u16)>,
+    pub calls: Vec<RulerCall>,
+    lines: usize,
+}
+
+// The first field of a line.
+fn word(line: &[u8]) -> &[u8] {
+    line.split(|byte| *byte == b'\t').next().unwrap_or(&[])
+}
+
+// Where the sheet ends: before the first line with another word than a sheet's.
+fn sheet_end(input: &[u8]) -> usize
+    ensures { result ≤ length input.now }
+{
+    let mut end = 0usize;
+    for line in input.split(|byte| *byte == b'\n') {
+        if Keyword::try_from(word(line)).is_err() {
+            break;
+        }
+        end = end.saturating_add(line.len()).saturating_add(1);
+    }
+    end.min(input.len())
+}
+
+impl Script {
+    pub fn new(heap: Global) -> Script {
+        Script {
+            size: None,
+            calls: Vec::new(heap),
+            lines: 0,
+        }
+    }
+
+    // Reads the sheet, and then the lines of calls.
+    pub fn read(&mut self, heap: Global, input: &[u8]) -> Result<(), Stop> {
+        if input.len() > LONGEST {
+            return Err(Stop::Fault(Fault {
+                line: 0,
+                field: 0,
+                refusal: Refusal::Long,
+            }));
+        }
+        let end = sheet_end(input);
+        // Where there is no sheet, the calls' first line is judged, and then that no plate line comes first.
+        if end > 0 || input.is_empty() {
+            self.read_sheet(heap, &input[..end])?;
+        }
+        self.read_calls(&input[end..])
+    }
+
+    // Reads the sheet's lines, each of which is judged as the plate would answer it.
+    fn read_sheet(&mut self, heap: Global, sheet: &[u8]) -> Result<(), Stop> {
+        let mut cells = vec![in heap; Cell::BARE; crate::CELLS]?;
+        let mut groups = [0u8; 64];
+        let mut reader = SheetReader::new(sheet);
+        let (rows, columns) = reader.plate_line()?;
+        let mut draft = open_plate(rows, columns, &mut cells, &mut groups)?;
+        self.size = Some((rows, columns));
+        while let Some(edit) = reader.next_edit()? {
+            edit.carry_out(reader.line(), &mut draft, &mut cells, &mut groups)?;
+            self.calls
+                .push(RulerCall::Plain(call_of(edit)))
+                .map_err(AllocError::from)?;
+        }
+        self.lines = reader.line();
+        Ok(())
+    }
+
+    // Reads lines of calls, each ended by a line feed.
+    fn read_calls(&mut self, text: &[u8]) -> Result<(), Stop> {
+        let ends = text.iter().filter(|byte| **byte == b'\n').count();
+        for (at, line) in text.split(|byte| *byte == b'\n').enumerate() {
+            if at == ends && line.is_empty() {
+                break;
+            }
+            let number = self.lines.saturating_add(at).saturating_add(1);
+            let call = read_call(line, at < ends, number, self.size.is_some())?;
+            self.calls.push(call).map_err(AllocError::from)?;
+        }
+        Ok(())
+    }
+}
