@@ -1,8 +1,6 @@
 // Sheets with the plates and the faults that they should have.
 #![tactic(auto)]
 
-ghost use Rattle.sheet_trials.specs.Examples.{WorkedExamples};
-
 use board::Cell;
 use sheets::{Fault, read_sheet};
 
@@ -15,11 +13,6 @@ pub fn fault_of(sheet: &[u8]) -> Option<Fault> {
     let mut groups = [0; 64];
     read_sheet(sheet, &mut cells, &mut groups).err()
 }
-
-// What the definitions say of a board and its sheet comes out by computing.
-pub fn definitions_give_the_examples()
-    ensures { WorkedExamples }
-{}
 
 #[cfg(test)]
 mod tests {

@@ -1,7 +1,6 @@
--- Two worked examples, by the definitions alone. Assumes nothing.
-use Rattle.std.specs.Prelude.{◌≡◌, ℕ, List, [], ◌∷◌, ◌++◌}
+-- The sheets of the worked examples, and what is printed of them. Assumes nothing.
+use Rattle.std.specs.Prelude.{ℕ, List, [], ◌∷◌, ◌++◌}
 use lib.Chars.{codes}
-use Rattle.console.specs.Gaps.{gap_text, sheet_gap}
 
 -- fields, each behind a tab, and the line's end
 abbrev pub figures : List (List ℕ) → List ℕ
@@ -20,10 +19,15 @@ board_lines =
     ++ codes "enrol" ++ figures (codes "1" ∷ codes "1" ∷ [])
     ++ codes "enrol" ++ figures (codes "2" ∷ codes "2" ∷ [])
 
--- a cell off that plate
-abbrev pub off_line : List ℕ
-off_line = codes "cell" ++ figures (codes "0" ∷ codes "3" ∷ codes "0" ∷ codes "1" ∷ [])
+abbrev pub sheet : List ℕ
+sheet = plate_line ++ board_lines
 
-pub record WorkedExamples : Type 0 where
-  pub fault : gap_text (sheet_gap (plate_line ++ off_line ++ board_lines)) ≡ codes "fault" ++ (9 ∷ codes "plate") ++ figures (codes "2" ∷ codes "2" ∷ codes "3" ∷ [])
-  pub gap : gap_text (sheet_gap (plate_line ++ board_lines)) ≡ codes "gap" ++ figures (codes "2" ∷ [])
+-- the same with a cell off the plate in its second line
+abbrev pub sheet_at_fault : List ℕ
+sheet_at_fault = plate_line ++ codes "cell" ++ figures (codes "0" ∷ codes "3" ∷ codes "0" ∷ codes "1" ∷ []) ++ board_lines
+
+abbrev pub gap_printed : List ℕ
+gap_printed = codes "gap" ++ figures (codes "2" ∷ [])
+
+abbrev pub fault_printed : List ℕ
+fault_printed = codes "fault" ++ (9 ∷ codes "plate") ++ figures (codes "2" ∷ codes "2" ∷ codes "3" ∷ [])

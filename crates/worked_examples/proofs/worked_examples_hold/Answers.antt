@@ -1,0 +1,36 @@
+use Rattle.std.proofs.Common.{refl}
+use Rattle.std.specs.Fmt.{digits}
+use Rattle.gauges.specs.Rulers.{root, root_from}
+use Rattle.measuring.specs.Maps.{measured_map, reached_count, record_at, step_count}
+use Rattle.measuring.specs.Rankings.{best, first_ranked, is_ranked, next_below}
+use Rattle.measuring.specs.Readings.{least_sum, route_marks}
+use Rattle.sheets.specs.Reading.{edits_read}
+use Rattle.worked_examples.proofs.worked_examples_hold.Goals as goal
+
+pub returns : goal.returns
+unfolding edits_read measured_map reached_count step_count record_at best first_ranked is_ranked next_below least_sum route_marks digits root root_from
+returns c = record {
+  one_cell_counts = refl;
+  one_cell_distance = refl;
+  strip_gap = refl;
+  strip_three_four = refl;
+  strip_euclid = refl;
+  strip_counted = refl;
+  strip_counts = refl;
+  strip_marks = refl;
+  parted_counts = refl;
+  parted_gap = refl;
+  parted_marks = refl;
+  two_rows_gap = refl;
+  two_rows_marks = refl;
+  three_rows_gap = refl;
+  three_rows_marks = refl;
+  three_rows_counted = refl;
+  three_rows_counted_marks = refl;
+  shared_nearest = refl;
+  flat_edge = refl;
+  flat_corner = refl;
+  steep_corner = refl;
+  sheet_gap_printed = refl;
+  sheet_fault_printed = refl;
+}

@@ -1,0 +1,40 @@
+-- The worked examples. Assumes nothing.
+use Rattle.std.specs.Prelude.{◌≡◌, ℕ, List, [], ◌∷◌, Some, None}
+use Rattle.gauges.specs.Rulers.{chessboard_units, euclid_units, three_four_units}
+use Rattle.gauges.specs.declared.step.Step.{Step}
+use Rattle.console.specs.Gaps.{gap_text, sheet_gap}
+use Rattle.worked_examples.specs.Boards.{counted_gap, counted_marks, counts, distance, gap, marks, nearest, one_cell, parted, shared, strip, three_rows, two_rows}
+use Rattle.worked_examples.specs.Sheets.{fault_printed, gap_printed, sheet, sheet_at_fault}
+
+-- a step from the first cell of a board, of this height, along an edge or across a corner
+abbrev pub edge_step : ℕ → Step
+edge_step height = record { from = record { row = 0; column = 0; height = height }; to = record { row = 0; column = 1; height = 0 } }
+
+abbrev pub corner_step : ℕ → Step
+corner_step height = record { from = record { row = 0; column = 0; height = height }; to = record { row = 1; column = 1; height = 0 } }
+
+-- by chessboard unless named
+pub record WorkedExamples : Type 0 where
+  pub one_cell_counts : counts chessboard_units one_cell 1 ≡ record { reached = 1; steps = 0 }
+  pub one_cell_distance : distance chessboard_units one_cell 1 0 ≡ Some 0
+  pub strip_gap : gap chessboard_units strip ≡ Some 12
+  pub strip_three_four : gap (three_four_units 1) strip ≡ Some 16
+  pub strip_euclid : gap euclid_units strip ≡ Some 2610
+  pub strip_counted : counted_gap strip ≡ Some (12, 2)
+  pub strip_counts : counts chessboard_units strip 1 ≡ record { reached = 3; steps = 4 }
+  pub strip_marks : marks chessboard_units strip ≡ 1 ∷ 1 ∷ 1 ∷ []
+  pub parted_counts : counts chessboard_units parted 1 ≡ record { reached = 1; steps = 0 }
+  pub parted_gap : gap chessboard_units parted ≡ None
+  pub parted_marks : marks chessboard_units parted ≡ 0 ∷ 0 ∷ 0 ∷ []
+  pub two_rows_gap : gap chessboard_units two_rows ≡ Some 2
+  pub two_rows_marks : marks chessboard_units two_rows ≡ 1 ∷ 0 ∷ 1 ∷ 0 ∷ 1 ∷ 0 ∷ []
+  pub three_rows_gap : gap chessboard_units three_rows ≡ Some 4
+  pub three_rows_marks : marks chessboard_units three_rows ≡ 1 ∷ 1 ∷ 1 ∷ 1 ∷ 0 ∷ 1 ∷ 0 ∷ 1 ∷ 0 ∷ []
+  pub three_rows_counted : counted_gap three_rows ≡ Some (4, 2)
+  pub three_rows_counted_marks : counted_marks three_rows ≡ 1 ∷ 1 ∷ 1 ∷ 0 ∷ 0 ∷ 0 ∷ 0 ∷ 0 ∷ 0 ∷ []
+  pub shared_nearest : nearest chessboard_units shared 1 1 ≡ Some 1
+  pub flat_edge : euclid_units (edge_step 0) ≡ 256
+  pub flat_corner : euclid_units (corner_step 0) ≡ 362
+  pub steep_corner : euclid_units (corner_step 65535) ≡ 16776960
+  pub sheet_gap_printed : gap_text (sheet_gap sheet) ≡ gap_printed
+  pub sheet_fault_printed : gap_text (sheet_gap sheet_at_fault) ≡ fault_printed
