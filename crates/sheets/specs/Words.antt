@@ -1,4 +1,4 @@
--- The words of lines and of layers, and the numbers that figures stand for. Assumes nothing.
+-- The words of lines and of layers, how a fault is printed, and the numbers that digits stand for. Assumes nothing.
 use Rattle.std.specs.Prelude.{◌≡◌, ◌≢◌, ◌+◌, ◌-◌, ◌*◌, ℕ, List, ◌∷◌, ◌++◌, decimal, Result, fold, MatchResult}
 use lib.Chars.{codes}
 use Rattle.board.specs.Refusals.{number}
