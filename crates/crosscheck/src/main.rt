@@ -34,51 +34,33 @@ fn run_kind(
     Ok(())
 }
 
-fn run(rt: &(impl Print + AllocGlobal)) -> Result<(), Stop> {
-    let mut dice = Dice::new(20_26);
-    run_kind(rt, &mut dice, "flat boards", Kind::Flat)?;
-    run_kind(rt, &mut dice, "rough boards", Kind::Rough)?;
-    run_kind(rt, &mut dice, "mazes", Kind::Maze)?;
-    run_kind(rt, &mut dice, "stripes", Kind::Stripes)?;
-    run_kind(rt, &mut dice, "steep boards", Kind::Steep)?;
-    print_family(
-        rt,
-        "stacks of layers",
-        40,
-        stacks(rt.alloc(), &mut dice, 40)?,
-    )?;
-    print_family(
-        rt,
-        "tampered maps",
-        80,
-        tampered(rt.alloc(), &mut dice, 80)?,
-    )?;
-    print_family(
-        rt,
-        "boards at the limits",
-        4,
-        limits(rt.alloc(), &mut dice)?,
-    )?;
-    print_family(
-        rt,
-        "plates of 40 calls",
-        400,
-        calls::plates(&mut dice, 400, 40),
-    )?;
-    print_family(
-        rt,
-        "sheets",
-        1000,
-        sheet::sheets(rt.alloc(), &mut dice, 1000)?,
-    )?;
-    print_family(
-        rt,
-        "sheets of the greatest length",
-        3,
-        sheet::long_sheets(rt.alloc())?,
-    )?;
+// Boards and their maps.
+fn run_boards(rt: &(impl Print + AllocGlobal), dice: &mut Dice) -> Result<(), Stop> {
+    run_kind(rt, dice, "flat boards", Kind::Flat)?;
+    run_kind(rt, dice, "rough boards", Kind::Rough)?;
+    run_kind(rt, dice, "mazes", Kind::Maze)?;
+    run_kind(rt, dice, "stripes", Kind::Stripes)?;
+    run_kind(rt, dice, "steep boards", Kind::Steep)?;
+    print_family(rt, "stacks of layers", 40, stacks(rt.alloc(), dice, 40)?)?;
+    print_family(rt, "tampered maps", 80, tampered(rt.alloc(), dice, 80)?)?;
+    print_family(rt, "boards at the limits", 4, limits(rt.alloc(), dice)?)?;
+    Ok(())
+}
+
+// Calls that may be sent back, and sheets.
+fn run_calls(rt: &(impl Print + AllocGlobal), dice: &mut Dice) -> Result<(), Stop> {
+    print_family(rt, "plates of 40 calls", 400, calls::plates(dice, 400, 40))?;
+    print_family(rt, "sheets", 1000, sheet::sheets(rt.alloc(), dice, 1000)?)?;
+    let long = sheet::long_sheets(rt.alloc())?;
+    print_family(rt, "sheets of the greatest length", 3, long)?;
     print_family(rt, "settings and rectangles", 41, calls::settings()?)?;
     Ok(())
+}
+
+fn run(rt: &(impl Print + AllocGlobal)) -> Result<(), Stop> {
+    let mut dice = Dice::new(2026);
+    run_boards(rt, &mut dice)?;
+    run_calls(rt, &mut dice)
 }
 
 fn main(rt: HostRuntime) -> io::Result<()> {

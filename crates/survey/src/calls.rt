@@ -1,15 +1,12 @@
 // A line of a call: its word and its figures.
 use board::Refusal;
 use runs::{Call, RulerCall};
-use sheets::{Edit, Fault, Place, Token};
+use sheets::{Edit, Fault, Keyword, Place, Token};
 
-// The words of lines; `plate` is one, so that a second plate line is told from a word that is unknown.
+// The words of lines: those of a sheet, and those of the other calls.
 #[derive(Clone, Copy, PartialEq, Eq)]
 enum Word {
-    Plate,
-    Cell,
-    Bar,
-    Enrol,
+    Sheet(Keyword),
     Measure,
     Distance,
     Nearest,
@@ -23,10 +20,6 @@ enum Word {
 impl Word {
     fn of(word: &[u8]) -> Option<Word> {
         match word {
-            b"plate" => Some(Word::Plate),
-            b"cell" => Some(Word::Cell),
-            b"bar" => Some(Word::Bar),
-            b"enrol" => Some(Word::Enrol),
             b"measure" => Some(Word::Measure),
             b"distance" => Some(Word::Distance),
             b"nearest" => Some(Word::Nearest),
@@ -35,52 +28,48 @@ impl Word {
             b"route" => Some(Word::Route),
             b"seal" => Some(Word::Seal),
             b"break" => Some(Word::Break),
-            _ => None,
+            _ => Keyword::try_from(word).ok().map(Word::Sheet),
         }
     }
 
     // How many figures follow the word.
     fn figures(self) -> usize {
         match self {
-            Word::Cell => 4,
+            Word::Sheet(keyword) => keyword.figures(),
             Word::Distance | Word::Nearest | Word::Way => 3,
-            Word::Plate | Word::Bar | Word::Enrol => 2,
             Word::Measure => 1,
             Word::Gap | Word::Route | Word::Seal | Word::Break => 0,
         }
     }
 
-    // The call of this word. A way's list and a route's marks are as long as the largest plate's need.
+    // The call of this word, if it is one on an open plate. A way's list and a route's marks are as long as the largest plate needs.
     fn call(self, figures: [u16; 4]) -> Option<RulerCall> {
-        let [a, b, c, d] = figures;
+        let [row, column, height, pad] = figures;
+        // What stands first and third where the figures are no place on the board.
+        let (first, second, group) = (row, column, height);
         let room = crate::CELLS;
         let call = match self {
-            Word::Plate => return None,
             Word::Gap => return Some(RulerCall::Gap),
             Word::Route => return Some(RulerCall::Route { room }),
-            Word::Cell => Call::Set {
-                row: a,
-                column: b,
-                height: c,
-                pad: d,
+            Word::Sheet(Keyword::Plate) => return None,
+            Word::Sheet(Keyword::Cell) => Call::Set {
+                row,
+                column,
+                height,
+                pad,
             },
-            Word::Bar => Call::Bar { row: a, column: b },
-            Word::Enrol => Call::Enrol { pad: a, group: b },
-            Word::Measure => Call::Measure { group: a },
-            Word::Distance => Call::Distance {
-                row: a,
-                column: b,
-                group: c,
+            Word::Sheet(Keyword::Bar) => Call::Bar { row, column },
+            Word::Sheet(Keyword::Enrol) => Call::Enrol {
+                pad: first,
+                group: second,
             },
-            Word::Nearest => Call::Nearest {
-                row: a,
-                column: b,
-                group: c,
-            },
+            Word::Measure => Call::Measure { group: first },
+            Word::Distance => Call::Distance { row, column, group },
+            Word::Nearest => Call::Nearest { row, column, group },
             Word::Way => Call::Way {
-                row: a,
-                column: b,
-                group: c,
+                row,
+                column,
+                group,
                 room,
             },
             Word::Seal => Call::Seal,
@@ -126,7 +115,7 @@ pub fn read_call(
     let Some(word) = word.filter(|word| ended && word.figures() == tabs) else {
         return Err(Fault::at(place, Refusal::Line));
     };
-    if !opened || word == Word::Plate {
+    if !opened || word == Word::Sheet(Keyword::Plate) {
         return Err(Fault::at(place, Refusal::Order));
     }
     let mut figures = [0u16; 4];

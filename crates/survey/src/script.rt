@@ -5,11 +5,9 @@ use crate::calls::{call_of, read_call};
 use board::{Cell, Refusal};
 use ending::Stop;
 use runs::RulerCall;
+use sheets::lines::LONGEST;
 use sheets::{Fault, Keyword, SheetReader, open_plate};
 use std::alloc::{AllocError, Global};
-
-// The longest input, in bytes, as a sheet's.
-const LONGEST: usize = 32768;
 
 // The plate's rows and columns once its line is read, the calls so far, and how many lines they took.
 #[derive(Drop)]
@@ -49,6 +47,7 @@ impl Script {
 
     // Reads the sheet, and then the lines of calls.
     pub fn read(&mut self, heap: Global, input: &[u8]) -> Result<(), Stop> {
+        // The whole input is no longer than a sheet may be.
         if input.len() > LONGEST {
             return Err(Stop::Fault(Fault {
                 line: 0,
