@@ -1,12 +1,15 @@
 // Why a program ends early, and how it ends.
 ghost use Rattle.std.specs.Prelude.{◌≡◌, Ok, Err};
+ghost use Rattle.std.specs.IoError.{error_kind};
+ghost use Rattle.std.specs.declared.io.ErrorKind.TheVariants.{OutOfMemory};
+ghost use Rattle.ending.specs.Ends.{stop_text};
 ghost use Rattle.ending.specs.declared.stop.Stop.TheVariants as stop;
 
 use board::Refusal;
 use gauges::SentBack;
 use sheets::Fault;
 use std::alloc::AllocError;
-use std::io;
+use std::{fmt, io};
 
 // A sheet at fault, a call sent back, or an error of memory, input or output.
 #[derive(Drop)]
@@ -49,11 +52,25 @@ impl From<io::Error> for Stop {
     }
 }
 
+// Want of memory becomes the error of the system that says so.
 impl From<AllocError> for Stop {
-    ghost from_gives = { λ _ end. (error : _) × (end ≡ stop.System error) };
+    ghost from_gives = { λ _ end. (error : _) × (end ≡ stop.System error) × (error_kind error ≡ OutOfMemory) };
 
     fn from(error: AllocError) -> Stop {
         Stop::System(error.into())
+    }
+}
+
+// A fault as it prints itself, or the number of a refusal.
+impl fmt::Display for Stop {
+    ghost output = { stop_text };
+
+    fn fmt<W: fmt::Write>(&self, f: &mut fmt::Formatter<W>) -> fmt::Result {
+        match self {
+            Stop::Fault(fault) => write!(f, "{fault}"),
+            Stop::Refused(refusal) => write!(f, "refused\t{}", refusal.number()),
+            Stop::System(error) => write!(f, "{error}"),
+        }
     }
 }
 
@@ -64,8 +81,7 @@ pub fn finish(rt: &impl Print, outcome: Result<(), Stop>) -> io::Result<()>
 {
     match outcome {
         Ok(()) => Ok(()),
-        Err(Stop::Fault(fault)) => println!(rt; "{fault}"),
-        Err(Stop::Refused(refusal)) => println!(rt; "refused\t{}", refusal.number()),
         Err(Stop::System(error)) => Err(error),
+        Err(stop) => println!(rt; "{stop}"),
     }
 }

@@ -1,5 +1,5 @@
 // The two layers: either over any gauge is a gauge, and over any ruler a ruler.
-ghost use Rattle.std.specs.Prelude.{◌≡◌, ◌<◌, [], ◌∷◌, ◌++◌, Some, None, MatchResult};
+ghost use Rattle.std.specs.Prelude.{◌≡◌, ◌<◌, [], ◌∷◌, ◌++◌, Some, None, MatchResult, OnErr};
 ghost use Rattle.board.specs.Refusals.{after, answered};
 ghost use Rattle.gauges.specs.Layers.{added, bad_rectangle, fenced, fenced_crossing, fenced_ruling, inside, rectangle_refusal, touches, weighted_crossing, weighted_ruling, weighting_refusal};
 ghost use Rattle.gauges.specs.LayerLaw.{weighted_lawful, weighted_ruled, weighted_adds, fenced_lawful, fenced_ruled, fenced_adds};
@@ -115,10 +115,11 @@ impl Rectangles {
         Ok(())
     }
 
-    // One rectangle more.
+    // One rectangle more; one that is refused changes nothing.
     pub fn add(&mut self, rectangle: Rectangle) -> Result<(), Refusal>
         ensures answer { result ≡ answered (rectangle_refusal self.old rectangle) }
         ensures list { added self.new ≡ after (rectangle_refusal self.old rectangle) (added self.old) (added self.old ++ (rectangle ∷ [])) }
+        ensures refused { OnErr result (self.new ≡ self.old) }
     {
         self.may_add(rectangle)?;
         self.list[self.count] = rectangle;
