@@ -8,5 +8,8 @@ pub mod Measures
 pub mod Readings
 pub mod Laws
 pub mod Lent
+pub mod Errors
 pub mod Happenings
+pub mod Sizes
+pub mod Leading
 pub mod Openings

@@ -51,3 +51,13 @@ seals _ was = was
 abbrev pub sealed : {L : Type 0} → List (Event L) → Bool
 sealed [] = false
 sealed (e ∷ before) = cond (accepted e.answer) (seals e.call (sealed before)) (sealed before)
+
+-- whether the call measured a group
+abbrev pub measured_now : {L : Type 0} → RulerCall → Said L → Bool
+measured_now (Plain (Measure group)) answer = accepted answer
+measured_now _ answer = false
+
+-- whether any group was measured
+abbrev pub measured_ever : {L : Type 0} → List (Event L) → Bool
+measured_ever [] = false
+measured_ever (e ∷ before) = measured_now e.call e.answer || measured_ever before

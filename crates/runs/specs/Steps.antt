@@ -1,5 +1,5 @@
 -- One call on a header and tables, as its contract allows it, and any number of them. Assumes nothing.
-use Rattle.std.specs.Prelude.{◌≡◌, ℕ, ◌<◌, Bool, true, false, cond, List, [], ◌∷◌, length, take, Some, None, Ok, Err, Option, Result, ◌==◌}
+use Rattle.std.specs.Prelude.{◌≡◌, ℕ, ◌<◌, Bool, true, false, cond, List, [], ◌∷◌, length, drop, take, Some, None, Ok, Err, Option, Result, ◌==◌}
 use Rattle.board.specs.Sizes.{area}
 use Rattle.board.specs.declared.cell.Cell.{Cell}
 use Rattle.board.specs.declared.record.MapRecord.{MapRecord}
@@ -128,6 +128,11 @@ module _ {L R : Type 0} (entries : ℕ) (s : State R) (answer : Said L) (s' : St
 
   abbrev pub Steps : Kind L → Rows L R → Crossing L → Option (L → L → L) → RulerCall → Type 0
   Steps kind rows g sums call = Unless (allowed s.is_sealed call) (Carries kind rows g sums call)
+
+-- what is left in a queue of which measuring needs n entries: those behind them stay, and all stay where nothing was measured
+pub record QueueLeft {E : Type 0} (n : ℕ) (was_measured : Bool) (entries entries' : List E) : Type 0 where
+  pub behind : drop n entries' ≡ drop n entries
+  pub unused : was_measured ≡ false → entries' ≡ entries
 
 -- the calls and answers, the last one first, lead from one state to another
 abbrev pub Leads : {L R : Type 0} → Kind L → Rows L R → Crossing L → Option (L → L → L) → ℕ → State R → List (Event L) → State R → Type 0

@@ -1,9 +1,11 @@
 // By what the calls of a run are carried out: a gauge, or a ruler with the gap and the route.
-ghost use Rattle.std.specs.Prelude.{Option, Ok, IfOk, length};
+ghost use Rattle.std.specs.Prelude.{◌≡◌, ◌*◌, Option, Ok, IfOk, OnErr, length};
+ghost use Rattle.board.specs.Sizes.{area};
 ghost use Rattle.gauges.specs.Meanings.{Crossing};
-ghost use Rattle.runs.specs.Plates.{state};
+ghost use Rattle.runs.specs.Plates.{header_of, state};
+ghost use Rattle.runs.specs.Histories.{measured_now};
 ghost use Rattle.runs.specs.Said.{said};
-ghost use Rattle.runs.specs.Steps.{Steps};
+ghost use Rattle.runs.specs.Steps.{QueueLeft, Steps};
 ghost use Rattle.runs.specs.declared.call.RulerCall.{RulerCall};
 
 use crate::Answer;
@@ -36,5 +38,7 @@ pub(crate) trait Caller {
         entries: &mut [Offer<<Self::Length as Length>::Row>],
         call: Self::Call,
     ) -> Result<(Plate, Answer<Self::Length>), AllocError>
-        ensures { IfOk result (λ done. Steps (length entries.old) (state plate cells.old groups.old first.old second.old) (said done.1) (state done.0 cells.new groups.new first.new second.new) Self.Length.kind Self.Length.rows (crossing self.now) (sums self.now) (as_call call)) };
+        ensures steps { IfOk result (λ done. Steps (length entries.old) (state plate cells.old groups.old first.old second.old) (said done.1) (state done.0 cells.new groups.new first.new second.new) Self.Length.kind Self.Length.rows (crossing self.now) (sums self.now) (as_call call)) }
+        ensures queue { IfOk result (λ done. QueueLeft (9 * area (header_of plate).size) (measured_now (as_call call) (said done.1)) entries.old entries.new) }
+        ensures stopped { OnErr result ((cells.new ≡ cells.old) × (groups.new ≡ groups.old) × (first.new ≡ first.old) × (second.new ≡ second.old) × (entries.new ≡ entries.old)) };
 }

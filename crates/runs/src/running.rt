@@ -1,9 +1,8 @@
 // A list of calls on a plate just opened.
-ghost use Rattle.std.specs.Prelude.{◌≡◌, List, [], Ok, IfOk, MatchResult, length, map};
+ghost use Rattle.std.specs.Prelude.{◌≡◌, List, Some, None, MatchResult, length, map};
 ghost use Rattle.runs.specs.Plates.{state};
-ghost use Rattle.runs.specs.Runs.{Answered, Ran, Stops, happened, opening_back, rooms};
-ghost use Rattle.runs.specs.Said.{said};
-ghost use Rattle.runs.specs.Steps.{Leads, State};
+ghost use Rattle.runs.specs.Runs.{Answered, LeadsTo, Leaves, LeftOver, Ran, Stops, holding, opening_back, rooms};
+ghost use Rattle.runs.specs.Said.{Said, said};
 ghost use Rattle.runs.specs.declared.call.RulerCall.TheVariants.{Plain};
 ghost use Rattle.runs.specs.declared.stopped.Stopped.TheVariants as stopped;
 
@@ -32,7 +31,7 @@ fn carry_out_all<C: Caller>(
     entries: &mut [Offer<<C::Length as Length>::Row>],
     calls: &[C::Call],
 ) -> Result<Vec<Answer<C::Length>>, Stopped>
-    ensures { MatchResult result (λ answers. (length answers.items ≡ length calls.now) × ((s : State C.Length.Row) × Leads C.Length.kind C.Length.rows (C.Caller.crossing caller.now) (C.Caller.sums caller.now) (length entries.old) (state plate cells.old groups.old first.old second.old) (happened (map C.Caller.as_call calls.now) (map said answers.items) []) s)) (λ e. e ≡ stopped.NoMemory) }
+    ensures { let left = holding cells.new groups.new first.new second.new entries.new in MatchResult result (λ answers. (length answers.items ≡ length calls.now) × LeadsTo C.Length.kind C.Length.rows (C.Caller.crossing caller.now) (C.Caller.sums caller.now) (state plate cells.old groups.old first.old second.old) entries.old (map C.Caller.as_call calls.now) (map said answers.items) left) (λ e. (e ≡ stopped.NoMemory) × ((answers : List (Said C.Length)) × LeadsTo C.Length.kind C.Length.rows (C.Caller.crossing caller.now) (C.Caller.sums caller.now) (state plate cells.old groups.old first.old second.old) entries.old (map C.Caller.as_call calls.now) answers left)) }
 {
     let mut plate = plate;
     let mut answers = Vec::new(alloc);
@@ -52,18 +51,15 @@ fn open_and_carry_out<C: Caller>(
     caller: &C,
     rows: u16,
     columns: u16,
-    tables: Tables<'_, <C::Length as Length>::Row>,
+    cells: &mut [Cell],
+    groups: &mut [u8],
+    first: &mut [MapRecord<<C::Length as Length>::Row>],
+    second: &mut [MapRecord<<C::Length as Length>::Row>],
+    entries: &mut [Offer<<C::Length as Length>::Row>],
     calls: &[C::Call],
 ) -> Result<Vec<Answer<C::Length>>, Stopped>
-    ensures { let lent = rooms tables.entry.cells.now tables.entry.groups.now tables.entry.first.now tables.entry.second.now tables.entry.entries.now in MatchResult result (λ answers. Ran lent rows columns C.Length.kind C.Length.rows (C.Caller.crossing caller.now) (C.Caller.sums caller.now) (map C.Caller.as_call calls.now) (map said answers.items)) (Stops (opening_back lent rows columns)) }
+    ensures { let held = holding cells.old groups.old first.old second.old entries.old in let left = holding cells.new groups.new first.new second.new entries.new in MatchResult result (λ answers. Ran rows columns C.Length.kind C.Length.rows (C.Caller.crossing caller.now) (C.Caller.sums caller.now) (map C.Caller.as_call calls.now) (map said answers.items) held left) (λ e. Stops (opening_back (rooms held.cells held.groups held.first held.second held.entries) rows columns) e × LeftOver rows columns C.Length.kind C.Length.rows (C.Caller.crossing caller.now) (C.Caller.sums caller.now) (map C.Caller.as_call calls.now) held left e) }
 {
-    let Tables {
-        cells,
-        groups,
-        first,
-        second,
-        entries,
-    } = tables;
     let draft = Draft::open(rows, columns, cells, groups)?;
     carry_out_all(
         alloc,
@@ -88,9 +84,28 @@ pub fn run<G: Gauge>(
     tables: Tables<'_, RowOf<G>>,
     calls: &[Call],
 ) -> Result<Vec<Answer<G::Length>>, Stopped>
-    ensures { let lent = rooms tables.entry.cells.now tables.entry.groups.now tables.entry.first.now tables.entry.second.now tables.entry.entries.now in MatchResult result (λ answers. Answered lent rows columns G.Length.kind (G.Gauge.crossing gauge.now) (map Plain calls.now) (map said answers.items)) (Stops (opening_back lent rows columns)) }
+    ensures answers { let lent = rooms tables.entry.cells.now tables.entry.groups.now tables.entry.first.now tables.entry.second.now tables.entry.entries.now in MatchResult result (λ answers. Answered lent rows columns G.Length.kind (G.Gauge.crossing gauge.now) (map Plain calls.now) (map said answers.items)) (Stops (opening_back lent rows columns)) }
+    ensures tables { let held = holding tables.entry.cells.now tables.entry.groups.now tables.entry.first.now tables.entry.second.now tables.entry.entries.now in let left = holding tables.exit.0.now tables.exit.1.0.now tables.exit.1.1.0.now tables.exit.1.1.1.0.now tables.exit.1.1.1.1.0.now in MatchResult result (λ answers. Leaves rows columns G.Length.kind G.Length.rows (G.Gauge.crossing gauge.now) None (map Plain calls.now) (map said answers.items) held left) (LeftOver rows columns G.Length.kind G.Length.rows (G.Gauge.crossing gauge.now) None (map Plain calls.now) held left) }
 {
-    open_and_carry_out(alloc, &ByGauge { gauge }, rows, columns, tables, calls)
+    let Tables {
+        cells,
+        groups,
+        first,
+        second,
+        entries,
+    } = tables;
+    open_and_carry_out(
+        alloc,
+        &ByGauge { gauge },
+        rows,
+        columns,
+        cells,
+        groups,
+        first,
+        second,
+        entries,
+        calls,
+    )
 }
 
 // The same by a ruler, with the gap and the route among the calls.
@@ -102,7 +117,26 @@ pub fn run_by_ruler<R: Ruler>(
     tables: Tables<'_, RowOf<R>>,
     calls: &[RulerCall],
 ) -> Result<Vec<Answer<R::Length>>, Stopped>
-    ensures { let lent = rooms tables.entry.cells.now tables.entry.groups.now tables.entry.first.now tables.entry.second.now tables.entry.entries.now in MatchResult result (λ answers. Answered lent rows columns R.Length.kind (R.Gauge.crossing ruler.now) calls.now (map said answers.items)) (Stops (opening_back lent rows columns)) }
+    ensures answers { let lent = rooms tables.entry.cells.now tables.entry.groups.now tables.entry.first.now tables.entry.second.now tables.entry.entries.now in MatchResult result (λ answers. Answered lent rows columns R.Length.kind (R.Gauge.crossing ruler.now) calls.now (map said answers.items)) (Stops (opening_back lent rows columns)) }
+    ensures tables { let held = holding tables.entry.cells.now tables.entry.groups.now tables.entry.first.now tables.entry.second.now tables.entry.entries.now in let left = holding tables.exit.0.now tables.exit.1.0.now tables.exit.1.1.0.now tables.exit.1.1.1.0.now tables.exit.1.1.1.1.0.now in MatchResult result (λ answers. Leaves rows columns R.Length.kind R.Length.rows (R.Gauge.crossing ruler.now) (Some (R.Ruler.ruling ruler.now).sum) calls.now (map said answers.items) held left) (LeftOver rows columns R.Length.kind R.Length.rows (R.Gauge.crossing ruler.now) (Some (R.Ruler.ruling ruler.now).sum) calls.now held left) }
 {
-    open_and_carry_out(alloc, &ByRuler { ruler }, rows, columns, tables, calls)
+    let Tables {
+        cells,
+        groups,
+        first,
+        second,
+        entries,
+    } = tables;
+    open_and_carry_out(
+        alloc,
+        &ByRuler { ruler },
+        rows,
+        columns,
+        cells,
+        groups,
+        first,
+        second,
+        entries,
+        calls,
+    )
 }

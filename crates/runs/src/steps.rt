@@ -1,10 +1,12 @@
 // One call on a plate and its tables, by the plate's own call.
-ghost use Rattle.std.specs.Prelude.{◌≡◌, ℕ, List, Option, None, Ok, IfOk, cond, ◌==◌, length};
+ghost use Rattle.std.specs.Prelude.{◌≡◌, ℕ, ◌*◌, List, Option, None, Ok, IfOk, OnErr, cond, ◌==◌, length};
+ghost use Rattle.board.specs.Sizes.{area};
 ghost use Rattle.board.specs.declared.record.MapRecord.{MapRecord as TheRecord};
-ghost use Rattle.runs.specs.Plates.{OnCells, OnGroups, OnMaps, PlainStep, state};
+ghost use Rattle.runs.specs.Plates.{OnCells, OnGroups, OnMaps, PlainStep, header_of, state};
+ghost use Rattle.runs.specs.Histories.{measured_now};
 ghost use Rattle.runs.specs.Said.{said};
 ghost use Rattle.runs.specs.Said.Said.{done, measured, distance, nearest};
-ghost use Rattle.runs.specs.Steps.{Steps, telling};
+ghost use Rattle.runs.specs.Steps.{QueueLeft, Steps, telling};
 ghost use Rattle.runs.specs.declared.call.Call.TheVariants as call;
 ghost use Rattle.runs.specs.declared.call.RulerCall.TheVariants.{Plain};
 
@@ -93,7 +95,8 @@ fn measure<G: Gauge>(
     entries: &mut [Offer<RowOf<G>>],
     group: u16,
 ) -> Answer<G::Length>
-    ensures { (sums : Option (G.Length → G.Length → G.Length)) → Steps (length entries.old) (state plate.old cells.now groups.now first.old second.old) (said result) (state plate.new cells.now groups.now first.new second.new) G.Length.kind G.Length.rows (G.Gauge.crossing gauge.now) sums (Plain (call.Measure group)) }
+    ensures steps { (sums : Option (G.Length → G.Length → G.Length)) → Steps (length entries.old) (state plate.old cells.now groups.now first.old second.old) (said result) (state plate.new cells.now groups.now first.new second.new) G.Length.kind G.Length.rows (G.Gauge.crossing gauge.now) sums (Plain (call.Measure group)) }
+    ensures queue { QueueLeft (9 * area (header_of plate.old).size) (measured_now (Plain (call.Measure group)) (said result)) entries.old entries.new }
 {
     let Plate::Draft(draft) = plate else {
         return Answer::NotAllowed;
@@ -192,7 +195,9 @@ pub(crate) fn carry_out<G: Gauge>(
     entries: &mut [Offer<RowOf<G>>],
     call: Call,
 ) -> Result<(Plate, Answer<G::Length>), AllocError>
-    ensures { IfOk result (λ done. (sums : Option (G.Length → G.Length → G.Length)) → Steps (length entries.old) (state plate cells.old groups.old first.old second.old) (said done.1) (state done.0 cells.new groups.new first.new second.new) G.Length.kind G.Length.rows (G.Gauge.crossing gauge.now) sums (Plain call)) }
+    ensures steps { IfOk result (λ done. (sums : Option (G.Length → G.Length → G.Length)) → Steps (length entries.old) (state plate cells.old groups.old first.old second.old) (said done.1) (state done.0 cells.new groups.new first.new second.new) G.Length.kind G.Length.rows (G.Gauge.crossing gauge.now) sums (Plain call)) }
+    ensures queue { IfOk result (λ done. QueueLeft (9 * area (header_of plate).size) (measured_now (Plain call) (said done.1)) entries.old entries.new) }
+    ensures stopped { OnErr result ((cells.new ≡ cells.old) × (groups.new ≡ groups.old) × (first.new ≡ first.old) × (second.new ≡ second.old) × (entries.new ≡ entries.old)) }
 {
     let mut plate = plate;
     let answer = match call {
