@@ -39,7 +39,34 @@ pub struct Spot {
     pub pad: u8,
 }
 
+impl From<MapRecord<u64>> for Record {
+    ghost from_gives = { λ found told. told ≡ record_of found };
+
+    fn from(found: MapRecord<u64>) -> Record {
+        Record {
+            length: found.length,
+            link: found.link,
+            rank: found.rank,
+            pad: found.pad,
+            reached: found.reached as u8,
+        }
+    }
+}
+
+impl From<Spot> for Cell {
+    ghost from_gives = { λ spot cell. cell ≡ spot_cell spot };
+
+    fn from(spot: Spot) -> Cell {
+        Cell {
+            height: spot.height,
+            pad: spot.pad,
+            barred: false,
+        }
+    }
+}
+
 // What stopped a measuring.
+#[derive(Drop)]
 enum Stop {
     Memory,
     Sent(Refusal),
@@ -99,11 +126,7 @@ fn write_cells(cells: &mut [Cell], spots: &[Spot])
     ensures { cells.new ≡ map spot_cell spots.now }
 {
     for (number, spot) in spots.iter().enumerate() {
-        cells[number] = Cell {
-            height: spot.height,
-            pad: spot.pad,
-            barred: false,
-        };
+        cells[number] = Cell::from(*spot);
     }
 }
 
@@ -155,13 +178,7 @@ fn write_records(out: &mut [Record], found: &[MapRecord<u64>])
     ensures { out.new ≡ map record_of found.now ++ drop (length found.now) out.old }
 {
     for (number, record) in found.iter().enumerate() {
-        out[number] = Record {
-            length: record.length,
-            link: record.link,
-            rank: record.rank,
-            pad: record.pad,
-            reached: record.reached as u8,
-        };
+        out[number] = Record::from(*record);
     }
 }
 

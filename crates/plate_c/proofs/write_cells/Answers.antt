@@ -5,7 +5,8 @@ use Rattle.plate_c.proofs.write_cells.Goals as goal
 
 pub loop-number-preserved : goal.loop-number-preserved
 loop-number-preserved c =
-    written_more spot_cell c.args.spots.now c.args.cells.now _ c.loop-number.number _ (omega arith) (omega arith) c.loop-number.invariant
+    rw c.from.ensures
+    (written_more spot_cell c.args.spots.now c.args.cells.now _ c.loop-number.number _ (omega arith) (omega arith) c.loop-number.invariant)
 
 pub returns : goal.returns
 returns c = c.loop-number.invariant ∙ written_over spot_cell c.args.spots.now c.args.cells.now _ (omega arith) c.requires
