@@ -126,3 +126,34 @@ pub fn read_call(
     }
     word.call(figures).ok_or(Fault::at(place, Refusal::Order))
 }
+
+#[cfg(test)]
+mod tests {
+    use super::*;
+
+    // A line, whether it is ended and a plate open, and the field and the refusal of its fault.
+    const FAULTS: [(&[u8], bool, bool, u8, Refusal); 10] = [
+        (b"", true, true, 0, Refusal::Line),
+        (b"walk", true, true, 0, Refusal::Line),
+        (b"gap\t1", true, true, 0, Refusal::Line),
+        (b"way\t1\t1", true, true, 0, Refusal::Line),
+        (b"seal", false, true, 0, Refusal::Line),
+        (b"measure\tx", true, false, 0, Refusal::Order),
+        (b"plate\tx\t1", true, true, 0, Refusal::Order),
+        (b"plate\t1\t1", true, true, 0, Refusal::Order),
+        (b"way\t1\t01\tx", true, true, 2, Refusal::Figure),
+        (b"cell\t1\t1\t1\t65536", true, true, 4, Refusal::Figure),
+    ];
+
+    #[test]
+    fn lines_are_judged_in_order(rt: HostRuntime) {
+        for (line, ended, opened, field, refusal) in FAULTS {
+            let fault = Fault {
+                line: 7,
+                field,
+                refusal,
+            };
+            assert_eq!(rt; read_call(line, ended, 7, opened), Err(fault));
+        }
+    }
+}

@@ -14,6 +14,7 @@ use output::{print_answer, print_call};
 use queue::Offer;
 use runs::{Answer, RulerCall, Stopped, Tables, run_by_ruler};
 use script::Script;
+use sheets::lines::LONGEST;
 use std::io;
 use std::io::Read;
 
@@ -77,6 +78,6 @@ fn survey(rt: &(impl Print + AllocGlobal), input: &[u8]) -> Result<(), Stop> {
 
 fn main(rt: HostRuntime) -> io::Result<()> {
     let mut input = Vec::new(rt.alloc());
-    rt.stdin().take(32769).read_to_end(&mut input)?;
+    rt.stdin().take(LONGEST as u64 + 1).read_to_end(&mut input)?;
     finish(&rt, survey(&rt, &input))
 }

@@ -95,3 +95,62 @@ impl Script {
         Ok(())
     }
 }
+
+#[cfg(test)]
+mod tests {
+    use super::*;
+
+    // The fault of an input, and how many calls come before it.
+    fn fault_of(heap: Global, input: &[u8]) -> (Option<Fault>, usize) {
+        let mut script = Script::new(heap);
+        match script.read(heap, input) {
+            Err(Stop::Fault(fault)) => (Some(fault), script.calls.len()),
+            _ => (None, script.calls.len()),
+        }
+    }
+
+    // An input, and the calls, line, field and refusal of its fault.
+    const FAULTS: [(&[u8], usize, usize, u8, Refusal); 6] = [
+        (b"", 0, 1, 0, Refusal::Order),
+        (b"gap\n", 0, 1, 0, Refusal::Order),
+        (b"bar\t0\t0\n", 0, 1, 0, Refusal::Order),
+        (b"plate\t1\t1\nbar\t0\t1\nseal\n", 0, 2, 2, Refusal::Off),
+        (
+            b"plate\t1\t1\nbar\t0\t0\ngap\nbar\t9\t9\nway\t0\n",
+            3,
+            5,
+            0,
+            Refusal::Line,
+        ),
+        (b"plate\t1\t1\nseal\nbreak", 1, 3, 0, Refusal::Line),
+    ];
+
+    #[test]
+    fn faults_have_their_place(rt: HostRuntime) {
+        for (input, calls, line, field, refusal) in FAULTS {
+            let fault = Fault {
+                line,
+                field,
+                refusal,
+            };
+            assert_eq!(rt; fault_of(rt.alloc(), input), (Some(fault), calls));
+        }
+    }
+
+    #[test]
+    fn the_length_is_judged_first(rt: HostRuntime) {
+        let long = [b'x'; LONGEST + 1];
+        let fault = Fault {
+            line: 0,
+            field: 0,
+            refusal: Refusal::Long,
+        };
+        assert_eq!(rt; fault_of(rt.alloc(), &long), (Some(fault), 0));
+        let line = Fault {
+            line: 1,
+            field: 0,
+            refusal: Refusal::Line,
+        };
+        assert_eq!(rt; fault_of(rt.alloc(), &long[1..]), (Some(line), 0));
+    }
+}
