@@ -75,6 +75,22 @@ fn lent(dice: &mut Dice, needed: usize, room: usize) -> usize {
 }
 
 impl Plate {
+    // A plate just opened.
+    fn new(draft: Draft, rows: u16, columns: u16, cells: [Cell; ROOM], groups: [u8; 66]) -> Plate {
+        let empty = MapRecord::unreached(0);
+        Plate {
+            draft,
+            rows,
+            columns,
+            current: [false, false],
+            cells,
+            groups,
+            first: [empty; ROOM],
+            second: [empty; ROOM],
+            entries: [Offer { length: 3, cell: 3 }; 128],
+        }
+    }
+
     fn area(&self) -> usize {
         usize::from(self.rows).saturating_mul(usize::from(self.columns))
     }
@@ -330,23 +346,24 @@ fn run_plate(dice: &mut Dice, calls: u64) -> u64 {
     let Ok(draft) = found else {
         return differ(answer(found) == expected && (cells, groups) == tables());
     };
-    let empty = MapRecord::unreached(0);
-    let mut plate = Plate {
-        draft,
-        rows,
-        columns,
-        current: [false, false],
-        cells,
-        groups,
-        first: [empty; ROOM],
-        second: [empty; ROOM],
-        entries: [Offer { length: 3, cell: 3 }; 128],
-    };
+    let mut plate = Plate::new(draft, rows, columns, cells, groups);
     let mut differences = differ(expected == 0);
     for _ in 0..calls {
         differences = differences.saturating_add(plate.try_call(dice));
     }
     differences
+}
+
+// What is found where the second implementation takes maps for current that were never measured.
+pub fn mistaken() -> u64 {
+    let mut dice = Dice::new(1);
+    let (mut cells, mut groups) = tables();
+    let Ok(draft) = Draft::open(1, 1, &mut cells, &mut groups) else {
+        return 0;
+    };
+    let mut plate = Plate::new(draft, 1, 1, cells, groups);
+    plate.current = [true, true];
+    plate.try_route(&mut dice)
 }
 
 // So many plates with so many calls on each.

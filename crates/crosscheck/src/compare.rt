@@ -234,6 +234,43 @@ where
     Ok(maps.saturating_add(readings))
 }
 
+// What a forged mark has wrong.
+#[derive(Clone, Copy)]
+pub enum Forgery {
+    Length,
+    Pad,
+    Link,
+}
+
+// A mark of this place that no map has.
+fn forged(mark: Mark, place: usize, forgery: Forgery) -> Mark {
+    let mut mark = mark;
+    match forgery {
+        Forgery::Length => mark.far.units = mark.far.units.saturating_add(1),
+        Forgery::Pad => mark.pad ^= 1,
+        Forgery::Link => mark.link = (place & 0xffff) as u16,
+    }
+    mark
+}
+
+// One board by one ruler, with the marks of one map forged before the readings.
+pub fn compare_forged<R: Ruler>(
+    heap: Global,
+    land: &Land,
+    ruler: &R,
+    recipe: &Recipe,
+    forgery: Forgery,
+) -> Result<u64, Stop>
+where
+    R::Length: Shown,
+{
+    let (_, mut both) = measure_both(heap, land, ruler, recipe)?;
+    for (place, mark) in both.one.iter_mut().enumerate() {
+        *mark = forged(*mark, place, forgery);
+    }
+    compare_readings(heap, land, ruler, recipe.counted(), &both)
+}
+
 // A record that tampering left.
 fn tampered(dice: &mut Dice, mark: Mark, area: u64, counted: bool) -> Mark {
     let mut mark = mark;

@@ -1,5 +1,5 @@
 // Compares the library with a second implementation on boards from a fixed generator, and prints a line for each family of boards:
-// how many there are, and how much differs.
+// how many there are, and how much differs. The last line says how many mistakes on purpose the comparisons do not find.
 #![tactic(auto)]
 
 mod calls;
@@ -9,6 +9,7 @@ mod families;
 mod land;
 mod library;
 mod look;
+mod mistakes;
 mod recipe;
 mod second;
 mod sheet;
@@ -60,7 +61,13 @@ fn run_calls(rt: &(impl Print + AllocGlobal), dice: &mut Dice) -> Result<(), Sto
 fn run(rt: &(impl Print + AllocGlobal)) -> Result<(), Stop> {
     let mut dice = Dice::new(2026);
     run_boards(rt, &mut dice)?;
-    run_calls(rt, &mut dice)
+    run_calls(rt, &mut dice)?;
+    let unnoticed = mistakes::unnoticed(rt.alloc())?;
+    println!(rt;
+        "mistakes on purpose\t{}\tunnoticed {unnoticed}",
+        mistakes::MANY
+    )?;
+    Ok(())
 }
 
 fn main(rt: HostRuntime) -> io::Result<()> {

@@ -212,11 +212,16 @@ fn is_same(fault: Fault, wrong: Wrong) -> bool {
     place && fault.layer().name() == layer_of(number)
 }
 
-// One sheet by both; the plate's size and the tables count too.
+// One sheet by both.
 fn compare(sheet: &[u8], lent: usize) -> u64 {
+    compare_two(sheet, sheet, lent)
+}
+
+// A sheet by the reader, and one by the second implementation; the plate's size and the tables count too.
+fn compare_two(sheet: &[u8], other: &[u8], lent: usize) -> u64 {
     let lent = lent.min(ROOM);
     let mut expected = Tables::new();
-    let wrong = expected.read(sheet, lent);
+    let wrong = expected.read(other, lent);
     let mut found = Tables::new();
     let mut cells = found.cells;
     let mut groups = found.groups;
@@ -237,6 +242,15 @@ fn compare(sheet: &[u8], lent: usize) -> u64 {
         _ => false,
     };
     differ(same)
+}
+
+// What is found where the second implementation reads another sheet: it differs in a cell, in a group, or in its fault.
+pub fn mistaken() -> u64 {
+    let sheet = b"plate\t1\t1\ncell\t0\t0\t1\t0\n";
+    let cell = compare_two(sheet, b"plate\t1\t1\ncell\t0\t0\t2\t0\n", ROOM);
+    let group = compare_two(sheet, b"plate\t1\t1\nenrol\t1\t1\n", ROOM);
+    let fault = compare_two(b"bar\n", b"bar\t1\t1\n", ROOM);
+    cell.min(group).min(fault)
 }
 
 // A line of some word and some figures, most of them good ones.

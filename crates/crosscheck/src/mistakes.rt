@@ -1,0 +1,44 @@
+// Comparisons that are wrong on purpose: one that finds nothing in them compares nothing.
+use crate::compare::{Forgery, compare_board, compare_forged};
+use crate::land::{Land, Spot};
+use crate::recipe::{Base, Recipe};
+use crate::{calls, sheet};
+use ending::Stop;
+use gauges::{Chessboard, WholeRuler};
+use std::alloc::{AllocError, Global};
+
+// How many mistakes there are.
+pub const MANY: u64 = 6;
+
+// Three open spots in a row, with pad 1 of group 1 and pad 2 of group 2 at its ends.
+fn strip(heap: Global) -> Result<Land, AllocError> {
+    let mut land = Land::new(heap, 1, 3)?;
+    for (column, pad) in [(0, 1), (2, 2)] {
+        let spot = Spot {
+            height: 0,
+            pad,
+            open: true,
+        };
+        land.put(0, column, spot);
+    }
+    land.groups[1] = 1;
+    land.groups[2] = 2;
+    Ok(land)
+}
+
+// How many mistakes go unnoticed.
+pub fn unnoticed(heap: Global) -> Result<u64, Stop> {
+    let land = strip(heap)?;
+    let ruler = WholeRuler(Chessboard);
+    let right = Recipe::plain(Base::Chessboard);
+    let wrong = Recipe::plain(Base::Euclid);
+    let found = [
+        compare_board(heap, &land, &ruler, &wrong)?,
+        compare_forged(heap, &land, &ruler, &right, Forgery::Length)?,
+        compare_forged(heap, &land, &ruler, &right, Forgery::Pad)?,
+        compare_forged(heap, &land, &ruler, &right, Forgery::Link)?,
+        calls::mistaken(),
+        sheet::mistaken(),
+    ];
+    Ok(found.iter().filter(|found| **found == 0).count() as u64)
+}
