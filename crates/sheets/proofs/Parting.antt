@@ -6,7 +6,7 @@ use Rattle.std.proofs.lemmas.List.Recursion.{is_count_by}
 use Rattle.std.proofs.lemmas.Bool.{true≢false}
 use Rattle.std.specs.List.{list_any, position_or_len}
 use Rattle.sheets.specs.Lines.{ended, fields_of, left_over, with_first}
-use Rattle.sheets.specs.Readers.{Parts, Whole}
+use Rattle.sheets.specs.Readers.{Parts, Unended}
 
 -- a byte that stands somewhere is among the list's
 any_at : (end : ℕ) (bs : List ℕ) (at : ℕ) → at < length bs → (get_or bs at 0 == end) ≡ true → list_any (λ c. c == end) bs ≡ true
@@ -82,8 +82,8 @@ none_found end bs e =
     let far : length bs ≤ position_or_len (λ c. c == end) bs = beyond (position_or_len (λ c. c == end) bs) (length bs) e in
     none_within end bs far
 
-pub whole : (end : ℕ) (bs : List ℕ) → position (λ c. c == end) bs ≡ None → Whole end bs
-whole end bs e = record { ended = ended_none end bs (none_found end bs e); left_over = left_over_none end bs (none_found end bs e) }
+pub unended : (end : ℕ) (bs : List ℕ) → position (λ c. c == end) bs ≡ None → Unended end bs
+unended end bs e = record { ended = ended_none end bs (none_found end bs e); left_over = left_over_none end bs (none_found end bs e) }
 
 length-with_first : (b : ℕ) (parts : List (List ℕ)) → length (with_first b parts) ≡ length parts
 length-with_first b [] = refl

@@ -14,7 +14,7 @@ pub record Parts (end : ℕ) (bytes first behind : List ℕ) : Type 0 where
   pub within : length first + 1 ≤ length bytes
 
 -- no part of a text is ended by this byte
-pub record Whole (end : ℕ) (bytes : List ℕ) : Type 0 where
+pub record Unended (end : ℕ) (bytes : List ℕ) : Type 0 where
   pub ended : ended end bytes ≡ []
   pub left_over : left_over end bytes ≡ bytes
 

@@ -1,7 +1,7 @@
 // One line of a sheet, read field by field.
 ghost use Rattle.std.specs.Prelude.{◌≡◌, ◌+◌, ◌-◌, ◌<◌, ◌==◌, [], length, drop, count_by, position, slice_index_or, Some, MatchOption, OnOk};
 ghost use Rattle.sheets.specs.Lines.{edit_in, fault_at, figure_in, keyword_in, pair_in, size_in};
-ghost use Rattle.sheets.specs.Readers.{Parts, Whole};
+ghost use Rattle.sheets.specs.Readers.{Parts, Unended};
 ghost use Rattle.sheets.specs.Tokens.{fields_left};
 
 use crate::{Edit, Fault, Keyword, Place, Token};
@@ -23,7 +23,7 @@ fn count_of(bytes: &[u8], byte: u8) -> usize
 
 // What stands before and behind the first place of a byte.
 pub(crate) fn split_once(bytes: &[u8], byte: u8) -> Option<(&[u8], &[u8])>
-    ensures { MatchOption result (Whole byte bytes.now) (λ parts. Parts byte bytes.now parts.0.now parts.1.now) }
+    ensures { MatchOption result (Unended byte bytes.now) (λ parts. Parts byte bytes.now parts.0.now parts.1.now) }
 {
     let at = place_of(bytes, byte)?;
     Some((&bytes[..at], &bytes[at + 1..]))

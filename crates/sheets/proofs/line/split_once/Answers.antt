@@ -1,11 +1,11 @@
 use Rattle.std.proofs.Common.{◌≡◌, ◌-◌, ◌+◌, length, drop, take, arith, sym, length-drop}
 use Rattle.std.proofs.lemmas.List.{take_all}
-use Rattle.sheets.proofs.Parting.{parts_at, whole}
+use Rattle.sheets.proofs.Parting.{parts_at, unended}
 use Rattle.sheets.proofs.line.split_once.Goals as goal
 
 pub returns-in_err-at : goal.returns-in_err-at
 returns-in_err-at c =
-    let none = whole c.args.byte c.args.bytes.now (sym c.in_err-at.ensures) in
+    let none = unended c.args.byte c.args.bytes.now (sym c.in_err-at.ensures) in
     rw c.from_residual.ensures none
 
 pub returns : goal.returns
