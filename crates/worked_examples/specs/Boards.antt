@@ -1,11 +1,11 @@
 -- The boards of the worked examples, and what is read off them. Assumes nothing.
-use Rattle.std.specs.Prelude.{ℕ, ◌*◌, List, [], ◌∷◌, Some, None, Option, false, true}
+use Rattle.std.specs.Prelude.{ℕ, List, [], ◌∷◌, Some, None, Option, false, true}
 use Rattle.std.proofs.Common.{lit≤}
 use Rattle.board.specs.Sizes.{area}
 use Rattle.board.specs.declared.cell.Cell.{Cell}
 use Rattle.board.specs.declared.size.Size.{Size}
 use Rattle.gauges.specs.Meanings.{Ruling, adding}
-use Rattle.gauges.specs.Rulers.{chessboard_units, counted_chessboard, euclid_units, three_four_units, whole_ruling}
+use Rattle.gauges.specs.Rulers.{counted_chessboard, whole_ruling}
 use Rattle.gauges.specs.declared.step.Step.{Step}
 use Rattle.lengths.specs.Kinds.{Kind, Rows}
 use Rattle.lengths.specs.Counteds.{counted_kind, counted_rows}

@@ -1,14 +1,17 @@
 -- The worked examples. Assumes nothing.
-use Rattle.std.specs.Prelude.{◌≡◌, ℕ, List, [], ◌∷◌, Some, None}
+use Rattle.std.specs.Prelude.{◌≡◌, ℕ, [], ◌∷◌, Some, None}
 use Rattle.gauges.specs.Rulers.{chessboard_units, euclid_units, three_four_units}
 use Rattle.gauges.specs.declared.step.Step.{Step}
 use Rattle.console.specs.Gaps.{gap_text, sheet_gap}
 use Rattle.worked_examples.specs.Boards.{counted_gap, counted_marks, counts, distance, gap, marks, nearest, one_cell, parted, shared, strip, three_rows, two_rows}
 use Rattle.worked_examples.specs.Sheets.{fault_printed, gap_printed, sheet, sheet_at_fault}
 
--- a step from the first cell of a board, of this height, along an edge or across a corner
-abbrev pub edge_step : ℕ → Step
-edge_step height = record { from = record { row = 0; column = 0; height = height }; to = record { row = 0; column = 1; height = 0 } }
+-- a step from the first cell of a board, of this height, along its row, along its column or across a corner
+abbrev pub row_step : ℕ → Step
+row_step height = record { from = record { row = 0; column = 0; height = height }; to = record { row = 0; column = 1; height = 0 } }
+
+abbrev pub column_step : ℕ → Step
+column_step height = record { from = record { row = 0; column = 0; height = height }; to = record { row = 1; column = 0; height = 0 } }
 
 abbrev pub corner_step : ℕ → Step
 corner_step height = record { from = record { row = 0; column = 0; height = height }; to = record { row = 1; column = 1; height = 0 } }
@@ -33,8 +36,12 @@ pub record WorkedExamples : Type 0 where
   pub three_rows_counted : counted_gap three_rows ≡ Some (4, 2)
   pub three_rows_counted_marks : counted_marks three_rows ≡ 1 ∷ 1 ∷ 1 ∷ 0 ∷ 0 ∷ 0 ∷ 0 ∷ 0 ∷ 0 ∷ []
   pub shared_nearest : nearest chessboard_units shared 1 1 ≡ Some 1
-  pub flat_edge : euclid_units (edge_step 0) ≡ 256
+  pub flat_row : euclid_units (row_step 0) ≡ 256
+  pub flat_column : euclid_units (column_step 0) ≡ 256
   pub flat_corner : euclid_units (corner_step 0) ≡ 362
   pub steep_corner : euclid_units (corner_step 65535) ≡ 16776960
+  pub three_four_row : three_four_units 2 (row_step 5) ≡ 13
+  pub three_four_column : three_four_units 2 (column_step 5) ≡ 13
+  pub three_four_corner : three_four_units 2 (corner_step 5) ≡ 14
   pub sheet_gap_printed : gap_text (sheet_gap sheet) ≡ gap_printed
   pub sheet_fault_printed : gap_text (sheet_gap sheet_at_fault) ≡ fault_printed

@@ -28,9 +28,13 @@ returns c = record {
   three_rows_counted = refl;
   three_rows_counted_marks = refl;
   shared_nearest = refl;
-  flat_edge = refl;
+  flat_row = refl;
+  flat_column = refl;
   flat_corner = refl;
   steep_corner = refl;
+  three_four_row = refl;
+  three_four_column = refl;
+  three_four_corner = refl;
   sheet_gap_printed = refl;
   sheet_fault_printed = refl;
 }
