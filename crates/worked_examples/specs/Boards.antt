@@ -3,6 +3,7 @@ use Rattle.std.specs.Prelude.{ℕ, List, [], ◌∷◌, Some, None, Option, fals
 use Rattle.std.proofs.Common.{lit≤}
 use Rattle.board.specs.Sizes.{area}
 use Rattle.board.specs.declared.cell.Cell.{Cell}
+use Rattle.board.specs.declared.record.MapRecord.{MapRecord}
 use Rattle.board.specs.declared.size.Size.{Size}
 use Rattle.gauges.specs.Meanings.{Ruling, adding}
 use Rattle.gauges.specs.Rulers.{counted_chessboard, whole_ruling}
@@ -38,6 +39,9 @@ size_1_1 = record { rows = 1; columns = 1; some_rows = lit≤ tt; few_rows = lit
 abbrev pub size_1_3 : Size
 size_1_3 = record { rows = 1; columns = 3; some_rows = lit≤ tt; few_rows = lit≤ tt; some_columns = lit≤ tt; few_columns = lit≤ tt }
 
+abbrev pub size_2_2 : Size
+size_2_2 = record { rows = 2; columns = 2; some_rows = lit≤ tt; few_rows = lit≤ tt; some_columns = lit≤ tt; few_columns = lit≤ tt }
+
 abbrev pub size_2_3 : Size
 size_2_3 = record { rows = 2; columns = 3; some_rows = lit≤ tt; few_rows = lit≤ tt; some_columns = lit≤ tt; few_columns = lit≤ tt }
 
@@ -58,6 +62,10 @@ parted = board size_1_3 (spot 0 1 ∷ wall ∷ spot 0 2 ∷ []) apart
 abbrev pub shared : Board
 shared = board size_1_3 (spot 0 1 ∷ spot 0 0 ∷ spot 0 2 ∷ []) (1 ∷ 1 ∷ [])
 
+-- two walls that touch at their corners, and a pad on either side
+abbrev pub diagonal : Board
+diagonal = board size_2_2 (spot 0 1 ∷ wall ∷ wall ∷ spot 0 2 ∷ []) apart
+
 -- a hill that a second row goes round
 abbrev pub two_rows : Board
 two_rows = board size_2_3 (spot 0 1 ∷ spot 9 0 ∷ spot 0 2 ∷ spot 0 0 ∷ spot 0 0 ∷ spot 0 0 ∷ []) apart
@@ -65,6 +73,13 @@ two_rows = board size_2_3 (spot 0 1 ∷ spot 9 0 ∷ spot 0 2 ∷ spot 0 0 ∷ s
 -- a low hill, and a wall in the middle
 abbrev pub three_rows : Board
 three_rows = board size_3_3 (spot 0 1 ∷ spot 1 0 ∷ spot 0 2 ∷ spot 0 0 ∷ wall ∷ spot 0 0 ∷ spot 0 0 ∷ spot 0 0 ∷ spot 0 0 ∷ []) apart
+
+-- the record of a reached cell with its length, pad, link and rank, and that of an unreached one
+abbrev pub ranked : ℕ → ℕ → ℕ → ℕ → MapRecord ℕ
+ranked length pad link rank = record { length = length; reached = true; pad = pad; link = link; rank = rank }
+
+abbrev pub unreached : MapRecord ℕ
+unreached = record { length = 0; reached = false; pad = 0; link = 0; rank = 0 }
 
 -- both maps of a board by a ruler, with what is read off them
 module _ {L R : Type 0} (kind : Kind L) (rows : Rows L R) (ruler : Ruling L) (b : Board) where
@@ -93,14 +108,17 @@ module _ (formula : Step → ℕ) (b : Board) where
   abbrev pub marks : List ℕ
   marks = marks_by whole_kind whole_rows (whole_ruling formula) b
 
+  abbrev pub map_of : ℕ → List (MapRecord ℕ)
+  map_of group = measured_map whole_rows (group_by whole_kind whole_rows (whole_ruling formula) b group)
+
   abbrev pub counts : ℕ → Counts
   counts group = counts_of (group_by whole_kind whole_rows (whole_ruling formula) b group)
 
   abbrev pub distance : ℕ → ℕ → Option ℕ
-  distance group j = units (distance_at whole_kind whole_rows (measured_map whole_rows (group_by whole_kind whole_rows (whole_ruling formula) b group)) j)
+  distance group j = units (distance_at whole_kind whole_rows (map_of group) j)
 
   abbrev pub nearest : ℕ → ℕ → Option ℕ
-  nearest group j = nearest_at whole_kind whole_rows (measured_map whole_rows (group_by whole_kind whole_rows (whole_ruling formula) b group)) j
+  nearest group j = nearest_at whole_kind whole_rows (map_of group) j
 
 -- by counted lengths
 abbrev pub counted_gap : Board → Option (ℕ × ℕ)

@@ -3,7 +3,7 @@ use Rattle.std.specs.Prelude.{◌≡◌, ℕ, [], ◌∷◌, Some, None}
 use Rattle.gauges.specs.Rulers.{chessboard_units, euclid_units, three_four_units}
 use Rattle.gauges.specs.declared.step.Step.{Step}
 use Rattle.console.specs.Gaps.{gap_text, sheet_gap}
-use Rattle.worked_examples.specs.Boards.{counted_gap, counted_marks, counts, distance, gap, marks, nearest, one_cell, parted, shared, strip, three_rows, two_rows}
+use Rattle.worked_examples.specs.Boards.{counted_gap, counted_marks, counts, diagonal, distance, gap, map_of, marks, nearest, one_cell, parted, ranked, shared, strip, three_rows, two_rows, unreached}
 use Rattle.worked_examples.specs.Sheets.{fault_printed, gap_printed, sheet, sheet_at_fault}
 
 -- a step from the first cell of a board, of this height, along its row, along its column or across a corner
@@ -27,10 +27,17 @@ pub record WorkedExamples : Type 0 where
   pub strip_counts : counts chessboard_units strip 1 ≡ record { reached = 3; steps = 4 }
   pub strip_marks : marks chessboard_units strip ≡ 1 ∷ 1 ∷ 1 ∷ []
   pub parted_counts : counts chessboard_units parted 1 ≡ record { reached = 1; steps = 0 }
+  pub parted_map : map_of chessboard_units parted 1 ≡ ranked 0 1 0 0 ∷ unreached ∷ unreached ∷ []
   pub parted_gap : gap chessboard_units parted ≡ None
   pub parted_marks : marks chessboard_units parted ≡ 0 ∷ 0 ∷ 0 ∷ []
+  pub diagonal_gap : gap chessboard_units diagonal ≡ Some 1
+  pub two_rows_counts : counts chessboard_units two_rows 1 ≡ record { reached = 6; steps = 22 }
+  pub two_rows_map :
+      map_of chessboard_units two_rows 1
+      ≡ ranked 0 1 0 0 ∷ ranked 10 1 0 5 ∷ ranked 2 1 4 3 ∷ ranked 1 1 0 1 ∷ ranked 1 1 0 2 ∷ ranked 2 1 4 4 ∷ []
   pub two_rows_gap : gap chessboard_units two_rows ≡ Some 2
   pub two_rows_marks : marks chessboard_units two_rows ≡ 1 ∷ 0 ∷ 1 ∷ 0 ∷ 1 ∷ 0 ∷ []
+  pub three_rows_counts : counts chessboard_units three_rows 1 ≡ record { reached = 8; steps = 24 }
   pub three_rows_gap : gap chessboard_units three_rows ≡ Some 4
   pub three_rows_marks : marks chessboard_units three_rows ≡ 1 ∷ 1 ∷ 1 ∷ 1 ∷ 0 ∷ 1 ∷ 0 ∷ 1 ∷ 0 ∷ []
   pub three_rows_counted : counted_gap three_rows ≡ Some (4, 2)
