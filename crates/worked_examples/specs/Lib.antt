@@ -1,3 +1,4 @@
 pub mod Boards
 pub mod Examples
+pub mod Refusals
 pub mod Sheets

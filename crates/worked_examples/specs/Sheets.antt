@@ -29,5 +29,8 @@ sheet_at_fault = plate_line ++ codes "cell" ++ figures (codes "0" ∷ codes "3" 
 abbrev pub gap_printed : List ℕ
 gap_printed = codes "gap" ++ figures (codes "2" ∷ [])
 
+abbrev pub none_printed : List ℕ
+none_printed = codes "gap" ++ figures (codes "none" ∷ [])
+
 abbrev pub fault_printed : List ℕ
 fault_printed = codes "fault" ++ (9 ∷ codes "plate") ++ figures (codes "2" ∷ codes "2" ∷ codes "3" ∷ [])

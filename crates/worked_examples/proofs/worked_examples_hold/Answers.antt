@@ -40,6 +40,13 @@ returns c = record {
   three_four_row = refl;
   three_four_column = refl;
   three_four_corner = refl;
+  refusal_numbers = refl;
+  refusal_layers = refl;
+  refusal_printed = refl;
+  second_plate = refl;
+  edit_too_soon = refl;
+  long_before_order = refl;
+  sheet_none_printed = refl;
   sheet_gap_printed = refl;
   sheet_fault_printed = refl;
 }
