@@ -408,6 +408,8 @@ pub fn settings() -> Result<u64, Stop> {
         differences = differences.saturating_add(more);
         let turned = try_rectangle(&mut rectangles, added, [1, 0, 0, 256]);
         differences = differences.saturating_add(turned);
+        let turned = try_rectangle(&mut rectangles, added, [0, 5, 9, 4]);
+        differences = differences.saturating_add(turned);
     }
     let full = try_rectangle(&mut rectangles, 16, [0, 0, 255, 255]);
     let faulty = try_rectangle(&mut rectangles, 16, [0, 0, 0, 256]);

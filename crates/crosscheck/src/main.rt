@@ -54,7 +54,7 @@ fn run_calls(rt: &(impl Print + AllocGlobal), dice: &mut Dice) -> Result<(), Sto
     print_family(rt, "sheets", 1000, sheet::sheets(rt.alloc(), dice, 1000)?)?;
     let long = sheet::long_sheets(rt.alloc())?;
     print_family(rt, "sheets of the greatest length", 3, long)?;
-    print_family(rt, "settings and rectangles", 41, calls::settings()?)?;
+    print_family(rt, "settings and rectangles", 57, calls::settings()?)?;
     Ok(())
 }
 

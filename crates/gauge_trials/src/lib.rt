@@ -126,6 +126,29 @@ mod tests {
         }
     }
 
+    // The first column is above the last.
+    const TURNED: Rectangle = Rectangle {
+        first_row: 0,
+        first_column: 5,
+        last_row: 9,
+        last_column: 4,
+    };
+
+    // A level step.
+    fn level(from: (u16, u16), to: (u16, u16)) -> Step {
+        let from = Point {
+            row: from.0,
+            column: from.1,
+            height: 0,
+        };
+        let to = Point {
+            row: to.0,
+            column: to.1,
+            height: 0,
+        };
+        Step { from, to }
+    }
+
     // A step below row 3.
     fn lower(rise: u16) -> Step {
         let mut step = rising(rise, true);
@@ -180,6 +203,7 @@ mod tests {
     fn settings_are_sent_back(rt: HostRuntime) -> Result<(), Fail> {
         let mut fence = Rectangles::new();
         assert_eq!(rt; fence.add(rectangle(5, 4, 0)), Err(Refusal::Setting));
+        assert_eq!(rt; fence.add(TURNED), Err(Refusal::Setting));
         assert_eq!(rt; fence.add(rectangle(0, 256, 0)), Err(Refusal::Setting));
         assert_eq!(rt; fence.add(rectangle(0, 0, 256)), Err(Refusal::Setting));
         for turn in 0..16 {
@@ -187,6 +211,7 @@ mod tests {
         }
         assert_eq!(rt; fence.add(rectangle(0, 0, 0)), Err(Refusal::Fence));
         assert_eq!(rt; fence.add(rectangle(1, 0, 0)), Err(Refusal::Setting));
+        assert_eq!(rt; fence.add(TURNED), Err(Refusal::Setting));
         for factor in [0, 17] {
             match Weighting::new(Level, factor) {
                 Ok(_) => return Err(Fail::new("a weight out of range")),
@@ -194,6 +219,32 @@ mod tests {
             }
         }
         Ok(())
+    }
+
+    // The first and last rows and columns are in the fence, and those beside them are not.
+    #[test]
+    fn fences_have_four_sides(rt: HostRuntime) {
+        let mut rectangles = Rectangles::new();
+        let middle = Rectangle {
+            first_row: 3,
+            first_column: 4,
+            last_row: 6,
+            last_column: 8,
+        };
+        assert_eq!(rt; rectangles.add(middle), Ok(()));
+        let fence = Fence::new(WholeRuler(Chessboard), rectangles);
+        for (step, units) in [
+            (level((2, 5), (2, 6)), Some(1)),
+            (level((3, 5), (3, 6)), None),
+            (level((6, 5), (6, 6)), None),
+            (level((7, 5), (7, 6)), Some(1)),
+            (level((4, 3), (5, 3)), Some(1)),
+            (level((4, 4), (5, 4)), None),
+            (level((4, 8), (5, 8)), None),
+            (level((4, 9), (5, 9)), Some(1)),
+        ] {
+            assert_eq!(rt; units_by(&fence, step), units);
+        }
     }
 
     // A weighting over a fence over a gauge.
