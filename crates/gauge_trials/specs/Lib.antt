@@ -1,2 +1,4 @@
 pub mod Terraces
 pub mod TerraceLaw
+pub mod Ledges
+pub mod LedgeLaw

@@ -1,13 +1,15 @@
-// Tests of the rulers and layers, and gauges and a ruler as a client would write them.
+// Tests of the rulers and layers, and gauges and rulers as a client would write them.
 #![tactic(auto)]
 
-ghost use Rattle.std.specs.Prelude.{true, false};
+ghost use Rattle.std.specs.Prelude.{◌≡◌, true, false};
 ghost use Rattle.gauge_trials.specs.Terraces.{terrace};
 ghost use Rattle.gauges.specs.Meanings.{adding};
 ghost use Rattle.std.proofs.Common.{rules};
 ghost use Rattle.lengths.specs.WholeLaws.{whole_laws};
 ghost use Rattle.gauges.specs.RulerLaw.{ruler_lawful, by_adding};
 ghost use Rattle.gauge_trials.specs.TerraceLaw.{terrace_ruled};
+ghost use Rattle.gauge_trials.specs.Ledges.{LawsHoldNoFurther, ledge, ledge_crossing, possible, taken};
+ghost use Rattle.gauge_trials.specs.LedgeLaw.{ledge_lawful, ledge_ruled, ledge_adds};
 
 use gauges::{Gauge, Point, Ruler, Step};
 use lengths::{Length as _, Whole};
@@ -78,6 +80,73 @@ impl Ruler for Terrace {
         a.saturating_add(b)
     }
 }
+
+// Whether a plate can have the cell.
+fn is_possible(point: Point) -> bool
+    ensures { result ≡ possible point }
+{
+    point.row < 256 && point.column < 256
+}
+
+// Whether a plate can have the step.
+fn is_taken(step: Step) -> bool
+    ensures { result ≡ taken step }
+{
+    let Step { from, to } = step;
+    let near = from.row.abs_diff(to.row) <= 1 && from.column.abs_diff(to.column) <= 1;
+    let same = from.row == to.row && from.column == to.column;
+    is_possible(from) && is_possible(to) && near && !same
+}
+
+// A ruler over level steps that keeps the laws on genuine, unbarred steps, as it owes, and on no others. Were a law to ask more of
+// a client than the rules do, it could not be proved of this one.
+#[derive(Clone, Copy)]
+pub struct Ledge;
+
+impl Gauge for Ledge {
+    type Length = Whole;
+
+    ghost crossing = { λ _. ledge_crossing };
+
+    ghost lawful = { λ _. ledge_lawful };
+
+    fn carry(&self, step: Step, length: Whole) -> Option<Whole> {
+        if !is_taken(step) {
+            return Some(Whole::new(1000u64.saturating_sub(length.units)));
+        }
+        self.span(step).map(|own| self.sum(length, own))
+    }
+}
+
+impl Ruler for Ledge {
+    ghost ruling = { λ _. ledge };
+
+    ghost ruled = { λ _. ledge_ruled };
+
+    ghost adds = { λ _. ledge_adds };
+
+    fn span(&self, step: Step) -> Option<Whole> {
+        let Step { from, to } = step;
+        let barred = if is_taken(step) {
+            from.height != to.height
+        } else {
+            from.row < to.row
+        };
+        if barred {
+            return None;
+        }
+        Some(Whole::new(u64::from(from.height) + 1))
+    }
+
+    fn sum(&self, a: Whole, b: Whole) -> Whole {
+        a.saturating_add(b)
+    }
+}
+
+// So it is: each of the laws that speak of steps fails of steps on which it is not owed.
+pub fn ledge_laws_hold_no_further()
+    ensures { LawsHoldNoFurther }
+{}
 
 // A step that rises by `rise`, to the right along its row or to the lower right corner.
 pub fn rising(rise: u16, along_row: bool) -> Step {
