@@ -10,6 +10,7 @@ ghost use Rattle.gauges.specs.RulerLaw.{ruler_lawful, by_adding};
 ghost use Rattle.gauge_trials.specs.TerraceLaw.{terrace_ruled};
 ghost use Rattle.gauge_trials.specs.Ledges.{LawsHoldNoFurther, ledge, ledge_crossing, possible, taken};
 ghost use Rattle.gauge_trials.specs.LedgeLaw.{ledge_lawful, ledge_ruled, ledge_adds};
+ghost use Rattle.gauge_trials.specs.Descents.{descent, descent_lawful};
 
 use gauges::{Gauge, Point, Ruler, Step};
 use lengths::{Length as _, Whole};
@@ -78,6 +79,25 @@ impl Ruler for Terrace {
 
     fn sum(&self, a: Whole, b: Whole) -> Whole {
         a.saturating_add(b)
+    }
+}
+
+// Steps down and level steps only, each for 1: the way down is no way up.
+#[derive(Clone, Copy)]
+pub struct Descent;
+
+impl Gauge for Descent {
+    type Length = Whole;
+
+    ghost crossing = { λ _. descent };
+
+    ghost lawful = { λ _. descent_lawful };
+
+    fn carry(&self, step: Step, length: Whole) -> Option<Whole> {
+        if step.to.height > step.from.height {
+            return None;
+        }
+        Some(length.saturating_add(Whole::new(1)))
     }
 }
 

@@ -6,7 +6,7 @@
 #[cfg(test)]
 mod tests {
     use board::{Cell, MapRecord};
-    use gauge_trials::{Level, Wall};
+    use gauge_trials::{Descent, Level, Wall};
     use gauges::{Chessboard, Gauge, WholeRuler};
     use lengths::Whole;
     use measuring::Counts;
@@ -441,6 +441,28 @@ mod tests {
                 size: (2, 3),
                 cells: &cells,
                 counts: counts(2, 6),
+                records: &records,
+            },
+        )
+    }
+
+    // A step is put to the gauge from the ranked cell to its neighbour: of a slope with its source in the middle the lower end
+    // is reached, and the upper is not.
+    #[test]
+    fn steps_lead_away_from_ranked_cells(rt: HostRuntime) -> Result<(), Fail> {
+        let middle = Cell {
+            height: 1,
+            ..pad(1)
+        };
+        let records = [UNREACHED, ranked(0, 1, 1, 0), ranked(1, 1, 1, 1)];
+        check_map(
+            &rt,
+            &Descent,
+            &Trial {
+                what: "steps lead away from ranked cells",
+                size: (1, 3),
+                cells: &[height(2), middle, Cell::BARE],
+                counts: counts(2, 3),
                 records: &records,
             },
         )
