@@ -2,7 +2,7 @@
 use Rattle.std.specs.Prelude.{◌≡◌, ℕ, true, false, List, [], ◌∷◌, Some, None}
 use Rattle.std.proofs.Common.{lit≤}
 use Rattle.board.specs.declared.cell.Cell.{Cell}
-use Rattle.board.specs.declared.refusal.Refusal.TheVariants.{Off, Outdated, Pad, Tables}
+use Rattle.board.specs.declared.refusal.Refusal.TheVariants.{Group, Off, Outdated, Pad, Tables}
 use Rattle.board.specs.declared.size.Size.{Size}
 use Rattle.plate.specs.Edits.{bare_cell, barred_cell}
 use Rattle.runs.specs.Said.{Said}
@@ -33,6 +33,10 @@ broken = then (Plain Break) done (then (Plain Seal) done measured_both)
 abbrev pub rooms : Rooms
 rooms = record { cells = 2; groups = 64; first = 2; second = 1; entries = 18 }
 
+-- with room for both maps
+abbrev pub roomy : Rooms
+roomy = record { cells = 2; groups = 64; first = 2; second = 2; entries = 18 }
+
 pub record Examples : Type 0 where
   pub cells : (ledger pair broken).cells ≡ record { height = 7; pad = 1; barred = false } ∷ barred_cell ∷ []
   pub unmeasured : current built 1 ≡ false
@@ -45,9 +49,14 @@ pub record Examples : Type 0 where
   pub is_broken : sealed broken ≡ false
   pub not_sealed : sealed (then (Plain Seal) (refused Outdated) built) ≡ false
   pub no_edit : allowed true (Plain (Bar 0 0)) ≡ false
+  pub no_measuring : allowed true (Plain (Measure 1)) ≡ false
+  pub no_second_seal : allowed true (Plain Seal) ≡ false
   pub no_break : allowed false (Plain Break) ≡ false
   pub readings : allowed true (Route 2) ≡ true
   pub first_of_two : sent_back rooms pair (current built) (Plain (Set 0 2 0 65)) ≡ Some Off
   pub short_map : sent_back rooms pair (current measured_both) (Plain (Measure 3)) ≡ Some Tables
   pub looked_up : sent_back rooms pair (current measured_both) (Plain (Distance 0 0 1)) ≡ None
-  pub both_maps : sent_back (record { cells = 2; groups = 64; first = 2; second = 2; entries = 18 }) pair (current built) Gap ≡ Some Outdated
+  pub off_first : sent_back roomy pair (current built) (Plain (Distance 0 2 3)) ≡ Some Off
+  pub group_first : sent_back roomy pair (current built) (Plain (Distance 0 1 3)) ≡ Some Group
+  pub then_outdated : sent_back roomy pair (current built) (Plain (Distance 0 1 2)) ≡ Some Outdated
+  pub both_maps : sent_back roomy pair (current built) Gap ≡ Some Outdated
