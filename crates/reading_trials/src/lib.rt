@@ -28,6 +28,11 @@ mod tests {
         rank: 7,
     };
 
+    // The numbers by which a way is sent back.
+    const SHORT: u8 = 7;
+
+    const TORN: u8 = 8;
+
     // What stands in a list before a way is written.
     const BLANK: u16 = 99;
 
@@ -216,20 +221,17 @@ mod tests {
             }
         }
 
-        // Checks the way in group 1's map: its answer, its cells, and that the list behind them stays.
+        // Checks the way in group 1's map: its answer or its number, its cells, and that the list behind them stays.
         fn check_way(
             &self,
             column: u16,
             list: &mut [u16],
-            answer: Result<usize, Refusal>,
+            answer: Result<usize, u8>,
             cells: &[u16],
         ) {
             let what = self.what;
-            assert_eq!(self.rt;
-                self.draft.way::<Whole>(self.map, 0, column, 1, list),
-                answer,
-                "{what}"
-            );
+            let way = self.draft.way::<Whole>(self.map, 0, column, 1, list);
+            assert_eq!(self.rt; way.map_err(|refusal| refusal.number()), answer, "{what}");
             for (number, cell) in list.iter().enumerate() {
                 assert_eq!(self.rt;
                     *cell,
@@ -241,8 +243,8 @@ mod tests {
 
         // Checks that the way is torn, on a list that is long enough and on one that is too short.
         fn check_torn(&self, column: u16) {
-            self.check_way(column, &mut [BLANK; 4], Err(Refusal::Torn), &[]);
-            self.check_way(column, &mut [], Err(Refusal::Torn), &[]);
+            self.check_way(column, &mut [BLANK; 4], Err(TORN), &[]);
+            self.check_way(column, &mut [], Err(TORN), &[]);
         }
 
         // Checks that all readings are sent back.
@@ -410,7 +412,7 @@ mod tests {
         assert_eq!(rt; distance(&draft, &map, 1, 1), Ok(Some(1)));
         let row = RowReadings::new(&rt, "ways need their lists", &draft, &map);
         row.check_way(1, &mut [BLANK; 2], Ok(2), &[1, 0]);
-        row.check_way(1, &mut [BLANK; 1], Err(Refusal::Short), &[]);
+        row.check_way(1, &mut [BLANK; 1], Err(SHORT), &[]);
         let source = RowReadings::new(&rt, "a source", &draft, &map);
         source.check_way(2, &mut [BLANK; 1], Ok(1), &[2]);
         Ok(())
