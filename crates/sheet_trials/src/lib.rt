@@ -19,6 +19,7 @@ mod tests {
     use super::*;
     use board::Refusal;
     use console::gap_line;
+    use sheets::{Place, Token};
     use std::process::Abort;
     use std::test::Fail;
 
@@ -405,6 +406,24 @@ mod tests {
         };
         assert_eq!(rt; &cells[..3], [Cell::BARE, set, Cell::BARRED].as_slice());
         assert_eq!(rt; &groups[..4], [0, 0, 1, 0].as_slice());
+    }
+
+    // A figure is no keyword, whatever it holds, and a word is no figure.
+    #[test]
+    fn tokens_are_of_their_kind(rt: HostRuntime) {
+        let place = Place { line: 3, field: 1 };
+        let at = |refusal| Fault {
+            line: 3,
+            field: 1,
+            refusal,
+        };
+        let word = Token::Word { bytes: b"7", place };
+        assert_eq!(rt; word.figure(), Err(at(Refusal::Figure)));
+        let figure = Token::Figure {
+            bytes: b"bar",
+            place,
+        };
+        assert_eq!(rt; figure.keyword(), Err(at(Refusal::Line)));
     }
 
     fn check_line(rt: &(impl Abort + AllocGlobal), sheet: &[u8], line: &str) -> Result<(), Fail> {
