@@ -234,26 +234,42 @@ where
     Ok(maps.saturating_add(readings))
 }
 
-// What a forged mark has wrong.
-#[derive(Clone, Copy)]
+// What is wrong in the last mark of a map, or in all its lengths.
+#[derive(Clone, Copy, PartialEq, Eq)]
 pub enum Forgery {
     Length,
     Pad,
     Link,
+    AllLengths,
 }
 
 // A mark of this place that no map has.
 fn forged(mark: Mark, place: usize, forgery: Forgery) -> Mark {
     let mut mark = mark;
     match forgery {
-        Forgery::Length => mark.far.units = mark.far.units.saturating_add(1),
+        Forgery::Length | Forgery::AllLengths => {
+            mark.far.units = mark.far.units.saturating_add(1);
+        }
         Forgery::Pad => mark.pad ^= 1,
         Forgery::Link => mark.link = (place & 0xffff) as u16,
     }
     mark
 }
 
-// One board by one ruler, with the marks of one map forged before the readings.
+// The maps and their counts alone.
+pub fn compare_maps<R: Ruler>(
+    heap: Global,
+    land: &Land,
+    ruler: &R,
+    recipe: &Recipe,
+) -> Result<u64, Stop>
+where
+    R::Length: Shown,
+{
+    Ok(measure_both(heap, land, ruler, recipe)?.0)
+}
+
+// One board by one ruler, with marks of one map forged before the readings of cells, or before gap and route.
 pub fn compare_forged<R: Ruler>(
     heap: Global,
     land: &Land,
@@ -265,10 +281,17 @@ where
     R::Length: Shown,
 {
     let (_, mut both) = measure_both(heap, land, ruler, recipe)?;
+    let counted = recipe.counted();
+    let last = both.one.len().saturating_sub(1);
     for (place, mark) in both.one.iter_mut().enumerate() {
-        *mark = forged(*mark, place, forgery);
+        if place == last || forgery == Forgery::AllLengths {
+            *mark = forged(*mark, place, forgery);
+        }
     }
-    compare_readings(heap, land, ruler, recipe.counted(), &both)
+    if forgery == Forgery::AllLengths {
+        return compare_route(heap, ruler, counted, &both);
+    }
+    compare_readings(heap, land, ruler, counted, &both)
 }
 
 // A record that tampering left.

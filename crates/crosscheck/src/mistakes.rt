@@ -1,5 +1,5 @@
 // Comparisons that are wrong on purpose: one that finds nothing in them compares nothing.
-use crate::compare::{Forgery, compare_board, compare_forged};
+use crate::compare::{Forgery, compare_forged, compare_maps};
 use crate::land::{Land, Spot};
 use crate::recipe::{Base, Recipe};
 use crate::{calls, sheet};
@@ -8,11 +8,11 @@ use gauges::{Chessboard, WholeRuler};
 use std::alloc::{AllocError, Global};
 
 // How many mistakes there are.
-pub const MANY: u64 = 6;
+pub const MANY: u64 = 7;
 
-// Three open spots in a row, with pad 1 of group 1 and pad 2 of group 2 at its ends.
+// Four open spots in a row, with pad 1 of group 1 on the first and pad 2 of group 2 on the third: the last is on no route.
 fn strip(heap: Global) -> Result<Land, AllocError> {
-    let mut land = Land::new(heap, 1, 3)?;
+    let mut land = Land::new(heap, 1, 4)?;
     for (column, pad) in [(0, 1), (2, 2)] {
         let spot = Spot {
             height: 0,
@@ -33,10 +33,11 @@ pub fn unnoticed(heap: Global) -> Result<u64, Stop> {
     let right = Recipe::plain(Base::Chessboard);
     let wrong = Recipe::plain(Base::Euclid);
     let found = [
-        compare_board(heap, &land, &ruler, &wrong)?,
+        compare_maps(heap, &land, &ruler, &wrong)?,
         compare_forged(heap, &land, &ruler, &right, Forgery::Length)?,
         compare_forged(heap, &land, &ruler, &right, Forgery::Pad)?,
         compare_forged(heap, &land, &ruler, &right, Forgery::Link)?,
+        compare_forged(heap, &land, &ruler, &right, Forgery::AllLengths)?,
         calls::mistaken(),
         sheet::mistaken(),
     ];

@@ -110,7 +110,7 @@ mod tests {
     }
 
     // An input, and the calls, line, field and refusal of its fault.
-    const FAULTS: [(&[u8], usize, usize, u8, Refusal); 6] = [
+    const FAULTS: [(&[u8], usize, usize, u8, Refusal); 7] = [
         (b"", 0, 1, 0, Refusal::Order),
         (b"gap\n", 0, 1, 0, Refusal::Order),
         (b"bar\t0\t0\n", 0, 1, 0, Refusal::Order),
@@ -123,6 +123,7 @@ mod tests {
             Refusal::Line,
         ),
         (b"plate\t1\t1\nseal\nbreak", 1, 3, 0, Refusal::Line),
+        (b"plate\t1\t1\nseal\n\nseal\n", 1, 3, 0, Refusal::Line),
     ];
 
     #[test]
