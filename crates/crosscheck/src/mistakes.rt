@@ -2,13 +2,10 @@
 use crate::compare::{Forgery, compare_forged, compare_maps};
 use crate::land::{Land, Spot};
 use crate::recipe::{Base, Recipe};
-use crate::{calls, sheet};
+use crate::sheet;
 use ending::Stop;
 use gauges::{Chessboard, WholeRuler};
 use std::alloc::{AllocError, Global};
-
-// How many mistakes there are.
-pub const MANY: u64 = 7;
 
 // Four open spots in a row, with pad 1 of group 1 on the first and pad 2 of group 2 on the third: the last is on no route.
 fn strip(heap: Global) -> Result<Land, AllocError> {
@@ -26,20 +23,18 @@ fn strip(heap: Global) -> Result<Land, AllocError> {
     Ok(land)
 }
 
-// How many mistakes go unnoticed.
-pub fn unnoticed(heap: Global) -> Result<u64, Stop> {
+// How much is found in maps, in four kinds of readings, and in sheets.
+pub fn found(heap: Global) -> Result<[u64; 6], Stop> {
     let land = strip(heap)?;
     let ruler = WholeRuler(Chessboard);
     let right = Recipe::plain(Base::Chessboard);
     let wrong = Recipe::plain(Base::Euclid);
-    let found = [
+    Ok([
         compare_maps(heap, &land, &ruler, &wrong)?,
         compare_forged(heap, &land, &ruler, &right, Forgery::Length)?,
         compare_forged(heap, &land, &ruler, &right, Forgery::Pad)?,
         compare_forged(heap, &land, &ruler, &right, Forgery::Link)?,
         compare_forged(heap, &land, &ruler, &right, Forgery::AllLengths)?,
-        calls::mistaken(),
         sheet::mistaken(),
-    ];
-    Ok(found.iter().filter(|found| **found == 0).count() as u64)
+    ])
 }

@@ -1,12 +1,11 @@
 -- What the words of histories come to on a plate of 1 × 2. Assumes nothing.
-use Rattle.std.specs.Prelude.{◌≡◌, ℕ, true, false, List, [], ◌∷◌, Some, None}
+use Rattle.std.specs.Prelude.{◌≡◌, ℕ, true, false, List, [], ◌∷◌, replicate, Some, None}
 use Rattle.std.proofs.Common.{lit≤}
-use Rattle.board.specs.declared.cell.Cell.{Cell}
 use Rattle.board.specs.declared.refusal.Refusal.TheVariants.{Group, Off, Outdated, Pad, Tables}
 use Rattle.board.specs.declared.size.Size.{Size}
-use Rattle.plate.specs.Edits.{bare_cell, barred_cell}
+use Rattle.plate.specs.Edits.{barred_cell}
 use Rattle.runs.specs.Said.{Said}
-use Rattle.runs.specs.Said.Said.{done, measured, not_allowed, refused}
+use Rattle.runs.specs.Said.Said.{done, measured, refused}
 use Rattle.runs.specs.Histories.{Event, current, ledger, sealed}
 use Rattle.runs.specs.Truths.{Rooms, allowed, sent_back}
 use Rattle.runs.specs.declared.call.Call.TheVariants.{Set, Bar, Enrol, Measure, Distance, Seal, Break}
@@ -19,9 +18,10 @@ pair = record { rows = 1; columns = 2; some_rows = lit≤ tt; few_rows = lit≤ 
 abbrev pub then : RulerCall → Said ℕ → List (Event ℕ) → List (Event ℕ)
 then call answer before = record { call = call; answer = answer } ∷ before
 
--- a cell is set, one is barred, and a call is sent back; then both groups are measured
+-- two cells are set, one of them is barred, and a call is sent back; then both groups are measured
 abbrev pub built : List (Event ℕ)
-built = then (Plain (Bar 0 2)) (refused Off) (then (Plain (Bar 0 1)) done (then (Plain (Set 0 0 7 1)) done []))
+built =
+    then (Plain (Bar 0 2)) (refused Off) (then (Plain (Bar 0 1)) done (then (Plain (Set 0 1 9 2)) done (then (Plain (Set 0 0 7 1)) done [])))
 
 abbrev pub measured_both : List (Event ℕ)
 measured_both =
@@ -39,6 +39,7 @@ roomy = record { cells = 2; groups = 64; first = 2; second = 2; entries = 18 }
 
 pub record Examples : Type 0 where
   pub cells : (ledger pair broken).cells ≡ record { height = 7; pad = 1; barred = false } ∷ barred_cell ∷ []
+  pub groups : (ledger pair (then (Plain (Enrol 3 2)) done [])).groups ≡ 0 ∷ 0 ∷ 2 ∷ replicate 61 0
   pub unmeasured : current built 1 ≡ false
   pub measured_first : current measured_both 1 ≡ true
   pub measured_second : current measured_both 2 ≡ true

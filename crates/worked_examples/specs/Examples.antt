@@ -10,7 +10,7 @@ use Rattle.console.specs.Gaps.{gap_text, sheet_gap}
 use Rattle.sheets.specs.Lines.{edit_next, fault_at, plate_asked}
 use Rattle.worked_examples.specs.Boards.{counted_gap, counted_marks, counts, diagonal, distance, gap, map_of, marks, nearest, one_cell, parted, ranked, shared, strip, three_rows, two_rows, unreached}
 use Rattle.worked_examples.specs.Refusals.{layers, numbers, torn_printed}
-use Rattle.worked_examples.specs.Sheets.{fault_printed, gap_printed, none_printed, plate_line, sheet, sheet_at_fault}
+use Rattle.worked_examples.specs.Sheets.{fault_printed, gap_printed, none_printed, plate_line, pad_printed, sheet, sheet_at_fault, sheet_of_pad_65}
 
 -- a step from the first cell of a board, of this height, along its row, along its column or across a corner
 abbrev pub row_step : ℕ → Step
@@ -64,4 +64,5 @@ pub record WorkedExamples : Type 0 where
   pub long_before_order : edit_next 32769 0 sheet ≡ Err (fault_at 0 0 refusal.Long)
   pub sheet_none_printed : gap_text (sheet_gap plate_line) ≡ none_printed
   pub sheet_gap_printed : gap_text (sheet_gap sheet) ≡ gap_printed
+  pub pad_fault_printed : gap_text (sheet_gap sheet_of_pad_65) ≡ pad_printed
   pub sheet_fault_printed : gap_text (sheet_gap sheet_at_fault) ≡ fault_printed

@@ -1,4 +1,5 @@
 pub mod Boards
+pub mod Parts
 pub mod Examples
 pub mod Refusals
 pub mod Sheets

@@ -26,6 +26,13 @@ sheet = plate_line ++ board_lines
 abbrev pub sheet_at_fault : List ℕ
 sheet_at_fault = plate_line ++ codes "cell" ++ figures (codes "0" ∷ codes "3" ∷ codes "0" ∷ codes "1" ∷ []) ++ board_lines
 
+-- pad 65 on a cell in its third line
+abbrev pub sheet_of_pad_65 : List ℕ
+sheet_of_pad_65 =
+    plate_line
+    ++ codes "bar" ++ figures (codes "1" ∷ codes "2" ∷ [])
+    ++ codes "cell" ++ figures (codes "0" ∷ codes "1" ∷ codes "0" ∷ codes "65" ∷ [])
+
 abbrev pub gap_printed : List ℕ
 gap_printed = codes "gap" ++ figures (codes "2" ∷ [])
 
@@ -34,3 +41,6 @@ none_printed = codes "gap" ++ figures (codes "none" ∷ [])
 
 abbrev pub fault_printed : List ℕ
 fault_printed = codes "fault" ++ (9 ∷ codes "plate") ++ figures (codes "2" ∷ codes "2" ∷ codes "3" ∷ [])
+
+abbrev pub pad_printed : List ℕ
+pad_printed = codes "fault" ++ (9 ∷ codes "plate") ++ figures (codes "3" ∷ codes "4" ∷ codes "4" ∷ [])

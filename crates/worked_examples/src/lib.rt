@@ -1,9 +1,11 @@
-// The worked examples of the rules, about the definitions that the contracts use, in one theorem.
+// The worked examples of the rules, and what single words come to, about the definitions that the contracts use, in one theorem.
 #![tactic(auto)]
 
 ghost use Rattle.worked_examples.specs.Examples.{WorkedExamples};
+ghost use Rattle.worked_examples.specs.Parts.{Parts};
 
 // Each of them comes out by computing.
 pub fn worked_examples_hold()
-    ensures { WorkedExamples }
+    ensures rules { WorkedExamples }
+    ensures parts { Parts }
 {}

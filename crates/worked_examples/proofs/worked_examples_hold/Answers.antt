@@ -7,9 +7,9 @@ use Rattle.measuring.specs.Readings.{least_sum, route_marks}
 use Rattle.sheets.specs.Reading.{edits_read}
 use Rattle.worked_examples.proofs.worked_examples_hold.Goals as goal
 
-pub returns : goal.returns
+pub returns-clause-rules : goal.returns-clause-rules
 unfolding edits_read measured_map reached_count step_count record_at best first_ranked is_ranked next_below least_sum route_marks digits root root_from
-returns c = record {
+returns-clause-rules c = record {
   one_cell_counts = refl;
   one_cell_distance = refl;
   strip_gap = refl;
@@ -48,5 +48,23 @@ returns c = record {
   long_before_order = refl;
   sheet_none_printed = refl;
   sheet_gap_printed = refl;
+  pad_fault_printed = refl;
   sheet_fault_printed = refl;
+}
+
+pub returns-clause-parts : goal.returns-clause-parts
+returns-clause-parts c = record {
+  last_cell = refl;
+  second_pad = refl;
+  byte_of_3 = refl;
+  pad_65 = refl;
+  bad_row = refl;
+  weighted_span = refl;
+  weighted_carry = refl;
+  second_rectangle = refl;
+  beside_both = refl;
+  zero_first = refl;
+  zero_alone = refl;
+  greatest = refl;
+  above = refl;
 }
