@@ -1,4 +1,4 @@
-// Comparisons that are wrong on purpose: one that finds nothing in them compares nothing.
+// Mistakes on purpose, in which the comparisons have to find something: without them a comparison of nothing would go unseen.
 use crate::compare::{Forgery, compare_forged, compare_maps};
 use crate::land::{Land, Spot};
 use crate::recipe::{Base, Recipe};

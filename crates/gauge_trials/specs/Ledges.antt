@@ -1,4 +1,4 @@
--- A client's ruler, with its gauge, that keeps the laws on genuine, unbarred steps, and on no others. Assumes nothing.
+-- A client's ruler, with its gauge, that keeps the laws on genuine, unbarred steps; beyond these each law fails of some step. Assumes nothing.
 use Rattle.std.specs.Prelude.{◌≡◌, ℕ, ◌+◌, ◌-◌, Bool, true, false, cond, not, ◌&&◌, ◌==◌, nat_lt}
 use Rattle.lengths.specs.Wholes.{whole, whole_kind, whole_sum}
 use Rattle.lengths.specs.declared.whole.Whole.{Whole}

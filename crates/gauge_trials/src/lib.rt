@@ -118,8 +118,8 @@ fn is_taken(step: Step) -> bool
     is_possible(from) && is_possible(to) && near && !same
 }
 
-// A ruler over level steps that keeps the laws on genuine, unbarred steps, as it owes, and on no others. Were a law to ask more of
-// a client than the rules do, it could not be proved of this one.
+// A ruler over level steps that keeps the laws on genuine, unbarred steps, as it owes. Were a law owed of barred steps, of cells that are
+// no neighbours, or of cells that no plate has, it could not be proved of this one.
 #[derive(Clone, Copy)]
 pub struct Ledge;
 

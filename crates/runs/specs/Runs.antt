@@ -1,4 +1,4 @@
--- What a run answers: a list of calls on a plate just opened. Assumes nothing.
+-- What a run answers, a list of calls on a plate just opened, and what it leaves in the tables. Assumes nothing.
 use Rattle.std.specs.Prelude.{◌≡◌, ℕ, ◌*◌, ◌||◌, List, [], ◌∷◌, length, Some, None, Option, nat_lt}
 use Rattle.board.specs.Refusals.{refuse}
 use Rattle.board.specs.Sizes.{Sized, area, bad_size}
@@ -79,7 +79,7 @@ abbrev pub Stops : Option Refusal → Stopped → Type 0
 Stops back (Refused e) = back ≡ Some e
 Stops back NoMemory = back ≡ None
 
--- a refusal to open the plate leaves the tables, and want of memory leaves what the calls so far made of them
+-- a refusal to open the plate leaves the tables, and want of memory leaves what the first calls made of them, however many these were
 abbrev pub LeftOver : {L R : Type 0} → ℕ → ℕ → Kind L → Rows L R → Crossing L → Option (L → L → L) → List RulerCall → Held R → Held R → Stopped → Type 0
 LeftOver r c kind rows g sums calls held left (Refused e) = left ≡ held
 LeftOver {L} r c kind rows g sums calls held left NoMemory = (answers : List (Said L)) × Leaves r c kind rows g sums calls answers held left

@@ -61,7 +61,7 @@ module _ {L R : Type 0} (entries : ℕ) (s : State R) (answer : Said L) (s' : St
     pub told : answer ≡ telling (λ x. done) result
     pub rest : s' ≡ record s { header = s'.header; groups = s'.groups }
 
-  -- measuring a group, over a queue of so many entries
+  -- measuring a group, over a queue of so many entries; what is left in the queue is said by QueueLeft, and not here
   pub record MeasureStep (rows : Rows L R) (m : Measuring L) (refusal : Option Refusal) : Type 0 where
     pub queue : List (Offer R)
     pub queue_after : List (Offer R)

@@ -75,7 +75,7 @@ fn open_and_carry_out<C: Caller>(
 }
 
 // Opens a plate over tables of any lengths and any content, and makes the calls one after another by a gauge. Each answer is true of
-// the plate at that moment.
+// the plate at that moment. The tables hold afterwards what the calls made of them, and are as they were where the plate is not opened.
 pub fn run<G: Gauge>(
     alloc: Global,
     gauge: &G,

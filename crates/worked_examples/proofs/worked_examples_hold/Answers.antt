@@ -4,6 +4,7 @@ use Rattle.gauges.specs.Rulers.{root, root_from}
 use Rattle.measuring.specs.Maps.{measured_map, reached_count, record_at, step_count}
 use Rattle.measuring.specs.Rankings.{best, first_ranked, is_ranked, next_below}
 use Rattle.measuring.specs.Readings.{least_sum, route_marks}
+use Rattle.measuring.specs.Ways.{way_within}
 use Rattle.sheets.specs.Reading.{edits_read}
 use Rattle.worked_examples.proofs.worked_examples_hold.Goals as goal
 
@@ -67,4 +68,20 @@ returns-clause-parts c = record {
   zero_alone = refl;
   greatest = refl;
   above = refl;
+}
+
+pub returns-clause-limits : goal.returns-clause-limits
+unfolding measured_map record_at best first_ranked is_ranked next_below way_within
+returns-clause-limits c = record {
+  rows_256 = refl;
+  rows_257 = refl;
+  columns_257 = refl;
+  pad_64 = refl;
+  pad_65 = refl;
+  weight_64 = refl;
+  weight_65 = refl;
+  factor_16 = refl;
+  factor_17 = refl;
+  long_enough = refl;
+  one_shorter = refl;
 }
