@@ -1,8 +1,10 @@
 -- An error that is handed on. Assumes nothing.
-use Rattle.std.proofs.Common.{◌≡◌, Ok, Err, Result, ap}
-use Rattle.std.proofs.lemmas.Bool.{false≢true}
-use Rattle.std.specs.Result.{IsErr, IsErrAnd}
+use Rattle.std.proofs.Common.{◌≡◌, Err, Result, ap, ◌∙◌}
+use Rattle.std.proofs.lemmas.Result.{err_from_is_err_and}
+use Rattle.std.specs.Result.{IsErrAnd}
 
-pub told_err : {A E : Type 0} (r : Result A E) (x : E) → IsErr r → IsErrAnd r (λ e. e ≡ x) → r ≡ Err x
-told_err (Ok a) x is and = absurd (false≢true is)
-told_err (Err e) x is and = ap Err and
+-- its result, where the conversion says what the error becomes
+pub told_err : {A E : Type 0} (r : Result A E) (x : E) → IsErrAnd r (λ e. e ≡ x) → r ≡ Err x
+told_err r x told =
+    let (e, is, same) = err_from_is_err_and r told in
+    is ∙ ap Err same

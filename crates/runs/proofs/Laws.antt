@@ -3,7 +3,6 @@ use Rattle.std.proofs.Common.{◌≡◌, ℕ, ◌*◌, ◌<◌, Bool, false, Lis
 use Rattle.std.proofs.lemmas.Bool.{false≢true}
 use Rattle.std.proofs.lemmas.List.{length-append, length-replicate, get_or-replicate}
 use Rattle.std.proofs.Math.Seq.{take-append_seam}
-use Rattle.board.specs.Refusals.{after}
 use Rattle.board.specs.Sizes.{area}
 use Rattle.board.specs.declared.cell.Cell.{Cell}
 use Rattle.board.specs.declared.record.MapRecord.{MapRecord}
@@ -20,6 +19,7 @@ use Rattle.runs.specs.Truths.{Answers, Judged, Truthful, allowed, sent_back}
 use Rattle.runs.specs.declared.call.Call.TheVariants.{Set, Bar, Enrol, Measure, Distance, Nearest, Way, Seal, Break}
 use Rattle.runs.specs.declared.call.RulerCall.{RulerCall}
 use Rattle.runs.specs.declared.call.RulerCall.TheVariants.{Plain, Gap, Route}
+use Rattle.runs.proofs.Openings.{cells_opened, groups_opened}
 use Rattle.runs.proofs.Moments.{Holds, Next, Stands, stands}
 use Rattle.runs.proofs.Moves.{Onward, bar_step, enrol_step, set_step}
 use Rattle.runs.proofs.Measures.{break_step, measure_step, seal_step}
@@ -79,17 +79,15 @@ module _ {L R : Type 0} (kind : Kind L) (rows : Rows L R) (g : Crossing L) where
   opened_stands : (r c : ℕ) (start : State R) → Starts r c start → Stands kind rows g start.header.size (λ group. false) false (on start.header.size (replicate (area start.header.size) bare_cell) (replicate 64 0)) start
   opened_stands r c start starts =
       let size = start.header.size in
-      let none = starts.opens.answer.0 in
       let fresh = starts.opens.answer.1 in
       let size_is : size ≡ starts.opened.header.size = ap (λ h. h.size) starts.header in
       let n_is : r * c ≡ area size = λ k. sym (ap (λ s. s.rows) size_is ∙ fresh.size.rows) k * sym (ap (λ s. s.columns) size_is ∙ fresh.size.columns) k in
       let bare = replicate (area size) bare_cell in
       let cells_are : start.cells ≡ bare ++ drop (area size) starts.cells =
-      starts.opens.all_bare
-      ∙ ap (λ e. after e starts.cells (replicate (r * c) bare_cell ++ drop (r * c) starts.cells)) none
+      cells_opened r c starts.cells start.cells starts.groups start.groups starts.opened starts.opens
       ∙ ap (λ n. replicate n bare_cell ++ drop n starts.cells) n_is in
       let groups_are : start.groups ≡ replicate 64 0 ++ drop 64 starts.groups =
-      starts.opens.no_groups ∙ ap (λ e. after e starts.groups (replicate 64 0 ++ drop 64 starts.groups)) none in
+      groups_opened r c starts.cells start.cells starts.groups start.groups starts.opened starts.opens in
       let long = length-replicate (area size) bare_cell in
       let long_groups = length-replicate {A = ℕ} 64 0 in
       let cells_front : take (area size) start.cells ≡ bare =

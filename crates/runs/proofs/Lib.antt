@@ -6,10 +6,10 @@ pub mod Looks
 pub mod Moves
 pub mod Measures
 pub mod Readings
+pub mod Openings
 pub mod Laws
 pub mod Lent
 pub mod Errors
 pub mod Happenings
 pub mod Sizes
 pub mod Leading
-pub mod Openings

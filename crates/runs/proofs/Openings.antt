@@ -14,7 +14,7 @@ use Rattle.plate.specs.Edits.{Opens, bare_cell, open_refusal}
 use Rattle.plate.specs.declared.header.Draft.{Draft}
 use Rattle.queue.specs.declared.offer.Offer.{Offer}
 use Rattle.runs.specs.Plates.{state}
-use Rattle.runs.specs.Runs.{Answered, Held, LeadsTo, Leaves, LeftOver, Ran, Stops, happened, holding, opening_back, rooms}
+use Rattle.runs.specs.Runs.{Answered, Held, LeadsTo, Leaves, LeftOver, Ran, Stops, happened, holding, opening_back, rooms_held}
 use Rattle.runs.specs.Said.{Said, said}
 use Rattle.runs.specs.Steps.{TellsTruth, rooms_of}
 use Rattle.runs.specs.Truths.{Truthful}
@@ -65,20 +65,22 @@ opened_groups r c cells groups none =
     let short = long_enough r c cells groups none in
     grind (arith, nat_tests, short)
 
--- opening leaves the lengths of its tables
-same_cells : (r c : ℕ) (cells cells' : List Cell) (groups groups' : List ℕ) (d : Draft) → Opens r c cells cells' groups groups' (Ok d) → length cells' ≡ length cells
-same_cells r c cells cells' groups groups' d opens =
-    ap length opens.all_bare
-    ∙ ap (λ refused. length (after refused cells (replicate (r * c) bare_cell ++ drop (r * c) cells))) opens.answer.0
-    ∙ refilled (r * c) bare_cell cells (opened_cells r c cells groups opens.answer.0)
+module _ (r c : ℕ) (cells cells' : List Cell) (groups groups' : List ℕ) (d : Draft) (opens : Opens r c cells cells' groups groups' (Ok d)) where
+  -- what opening writes
+  pub cells_opened : cells' ≡ replicate (r * c) bare_cell ++ drop (r * c) cells
+  cells_opened = opens.all_bare ∙ ap (λ refused. after refused cells (replicate (r * c) bare_cell ++ drop (r * c) cells)) opens.answer.0
 
-same_groups : (r c : ℕ) (cells cells' : List Cell) (groups groups' : List ℕ) (d : Draft) → Opens r c cells cells' groups groups' (Ok d) → length groups' ≡ length groups
-same_groups r c cells cells' groups groups' d opens =
-    ap length opens.no_groups
-    ∙ ap (λ refused. length (after refused groups (replicate 64 0 ++ drop 64 groups))) opens.answer.0
-    ∙ refilled 64 0 groups (opened_groups r c cells groups opens.answer.0)
+  pub groups_opened : groups' ≡ replicate 64 0 ++ drop 64 groups
+  groups_opened = opens.no_groups ∙ ap (λ refused. after refused groups (replicate 64 0 ++ drop 64 groups)) opens.answer.0
 
-pub answered : {L R : Type 0} (r c : ℕ) (kind : Kind L) (rows : Rows L R) (g : Crossing L) (sums : Option (L → L → L)) (calls : List RulerCall) (answers : List (Said L)) (held left : Held R) → TellsTruth kind rows g sums → Ran r c kind rows g sums calls answers held left → Answered (rooms held.cells held.groups held.first held.second held.entries) r c kind g calls answers
+  -- it leaves the lengths of its tables
+  same_cells : length cells' ≡ length cells
+  same_cells = ap length cells_opened ∙ refilled (r * c) bare_cell cells (opened_cells r c cells groups opens.answer.0)
+
+  same_groups : length groups' ≡ length groups
+  same_groups = ap length groups_opened ∙ refilled 64 0 groups (opened_groups r c cells groups opens.answer.0)
+
+pub answered : {L R : Type 0} (r c : ℕ) (kind : Kind L) (rows : Rows L R) (g : Crossing L) (sums : Option (L → L → L)) (calls : List RulerCall) (answers : List (Said L)) (held left : Held R) → TellsTruth kind rows g sums → Ran r c kind rows g sums calls answers held left → Answered (rooms_held held) r c kind g calls answers
 answered r c kind rows g sums calls answers held left law run =
     let start = run.leaves.start in
     let starts = run.leaves.starts in
@@ -86,7 +88,7 @@ answered r c kind rows g sums calls answers held left law run =
     let size_is = ap (λ h. h.size) starts.header in
     let fresh = starts.opens.answer.1 in
     let lent = run.leaves.lent in
-    let same_rooms : rooms_of (length held.entries) start ≡ rooms held.cells held.groups held.first held.second held.entries = λ k. record {
+    let same_rooms : rooms_of (length held.entries) start ≡ rooms_held held = λ k. record {
       cells = (same_cells r c starts.cells start.cells starts.groups start.groups starts.opened starts.opens ∙ ap length lent.0) k;
       groups = (same_groups r c starts.cells start.cells starts.groups start.groups starts.opened starts.opens ∙ ap length lent.1) k;
       first = length (lent.2 k);
@@ -102,5 +104,5 @@ answered r c kind rows g sums calls answers held left law run =
     }
 
 -- what a run leaves in the tables, however it ends
-pub tables_left : {L R A : Type 0} (r c : ℕ) (kind : Kind L) (rows : Rows L R) (g : Crossing L) (sums : Option (L → L → L)) (calls : List RulerCall) (say : A → List (Said L)) (held left : Held R) (result : Result A Stopped) → MatchResult result (λ a. Ran r c kind rows g sums calls (say a) held left) (λ e. Stops (opening_back (rooms held.cells held.groups held.first held.second held.entries) r c) e × LeftOver r c kind rows g sums calls held left e) → MatchResult result (λ a. Leaves r c kind rows g sums calls (say a) held left) (LeftOver r c kind rows g sums calls held left)
+pub tables_left : {L R A : Type 0} (r c : ℕ) (kind : Kind L) (rows : Rows L R) (g : Crossing L) (sums : Option (L → L → L)) (calls : List RulerCall) (say : A → List (Said L)) (held left : Held R) (result : Result A Stopped) → MatchResult result (λ a. Ran r c kind rows g sums calls (say a) held left) (λ e. Stops (opening_back (rooms_held held) r c) e × LeftOver r c kind rows g sums calls held left e) → MatchResult result (λ a. Leaves r c kind rows g sums calls (say a) held left) (LeftOver r c kind rows g sums calls held left)
 tables_left r c kind rows g sums calls say held left result ends = MatchResult-weaker result ends (λ a ran. ran.leaves) (λ e h. h.1)

@@ -45,6 +45,9 @@ pub record Held (R : Type 0) : Type 0 where
 abbrev pub holding : {R : Type 0} → List Cell → List ℕ → List (MapRecord R) → List (MapRecord R) → List (Offer R) → Held R
 holding cells groups first second entries = record { cells = cells; groups = groups; first = first; second = second; entries = entries }
 
+abbrev pub rooms_held : {R : Type 0} → Held R → Rooms
+rooms_held held = rooms held.cells held.groups held.first held.second held.entries
+
 -- the calls that are answered lead from a plate with its tables and its queue to what is left in them; the entries that measuring
 -- needs are left open once a group was measured
 pub record LeadsTo {L R : Type 0} (kind : Kind L) (rows : Rows L R) (g : Crossing L) (sums : Option (L → L → L)) (start : State R) (entries : List (Offer R)) (calls : List RulerCall) (answers : List (Said L)) (left : Held R) : Type 0 where
@@ -62,7 +65,7 @@ pub record Leaves {L R : Type 0} (r c : ℕ) (kind : Kind L) (rows : Rows L R) (
 
 -- all calls are made
 pub record Ran {L R : Type 0} (r c : ℕ) (kind : Kind L) (rows : Rows L R) (g : Crossing L) (sums : Option (L → L → L)) (calls : List RulerCall) (answers : List (Said L)) (held left : Held R) : Type 0 where
-  pub opened : opening_back (rooms held.cells held.groups held.first held.second held.entries) r c ≡ None
+  pub opened : opening_back (rooms_held held) r c ≡ None
   pub all : length answers ≡ length calls
   pub leaves : Leaves r c kind rows g sums calls answers held left
 

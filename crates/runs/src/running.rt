@@ -1,7 +1,7 @@
 // A list of calls on a plate just opened.
 ghost use Rattle.std.specs.Prelude.{◌≡◌, List, Some, None, MatchResult, length, map};
 ghost use Rattle.runs.specs.Plates.{state};
-ghost use Rattle.runs.specs.Runs.{Answered, LeadsTo, Leaves, LeftOver, Ran, Stops, holding, opening_back, rooms};
+ghost use Rattle.runs.specs.Runs.{Answered, LeadsTo, Leaves, LeftOver, Ran, Stops, holding, opening_back, rooms, rooms_held};
 ghost use Rattle.runs.specs.Said.{Said, said};
 ghost use Rattle.runs.specs.declared.call.RulerCall.TheVariants.{Plain};
 ghost use Rattle.runs.specs.declared.stopped.Stopped.TheVariants as stopped;
@@ -58,7 +58,7 @@ fn open_and_carry_out<C: Caller>(
     entries: &mut [Offer<<C::Length as Length>::Row>],
     calls: &[C::Call],
 ) -> Result<Vec<Answer<C::Length>>, Stopped>
-    ensures { let held = holding cells.old groups.old first.old second.old entries.old in let left = holding cells.new groups.new first.new second.new entries.new in MatchResult result (λ answers. Ran rows columns C.Length.kind C.Length.rows (C.Caller.crossing caller.now) (C.Caller.sums caller.now) (map C.Caller.as_call calls.now) (map said answers.items) held left) (λ e. Stops (opening_back (rooms held.cells held.groups held.first held.second held.entries) rows columns) e × LeftOver rows columns C.Length.kind C.Length.rows (C.Caller.crossing caller.now) (C.Caller.sums caller.now) (map C.Caller.as_call calls.now) held left e) }
+    ensures { let held = holding cells.old groups.old first.old second.old entries.old in let left = holding cells.new groups.new first.new second.new entries.new in MatchResult result (λ answers. Ran rows columns C.Length.kind C.Length.rows (C.Caller.crossing caller.now) (C.Caller.sums caller.now) (map C.Caller.as_call calls.now) (map said answers.items) held left) (λ e. Stops (opening_back (rooms_held held) rows columns) e × LeftOver rows columns C.Length.kind C.Length.rows (C.Caller.crossing caller.now) (C.Caller.sums caller.now) (map C.Caller.as_call calls.now) held left e) }
 {
     let draft = Draft::open(rows, columns, cells, groups)?;
     carry_out_all(

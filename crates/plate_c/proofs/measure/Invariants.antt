@@ -1,3 +1,4 @@
+-- Each measuring gives the same map and counts. Assumes nothing.
 use Rattle.std.proofs.Common.{◌≡◌, ◌*◌, length}
 use Rattle.board.specs.Sizes.{area}
 use Rattle.lengths.specs.Wholes.{whole_rows}

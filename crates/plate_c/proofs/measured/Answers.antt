@@ -1,3 +1,4 @@
+-- What is written is what was measured of the spots. Assumes nothing.
 use Rattle.std.proofs.Common.{◌≡◌, ◌++◌, map, length, drop, ap, ◌∙◌, arith}
 use Rattle.board.specs.Sizes.{Sized}
 use Rattle.plate_c.specs.Answers.{record_of, spot_cell}

@@ -1,3 +1,4 @@
+-- Each cell is written from its spot. Assumes nothing.
 use Rattle.std.proofs.Common.{◌∙◌, arith}
 use Rattle.plate_c.specs.Answers.{spot_cell}
 use Rattle.plate_c.proofs.Writing.{written_more, written_over}

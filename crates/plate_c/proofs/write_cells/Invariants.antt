@@ -1,3 +1,4 @@
+-- The cells so far are written. Assumes nothing.
 use Rattle.std.proofs.Common.{◌≡◌}
 use Rattle.plate_c.specs.Answers.{spot_cell}
 use Rattle.plate_c.proofs.Writing.{written}

@@ -1,3 +1,4 @@
+-- Each record is written from the map. Assumes nothing.
 use Rattle.std.proofs.Common.{◌∙◌, arith}
 use Rattle.plate_c.specs.Answers.{record_of}
 use Rattle.plate_c.proofs.Writing.{written_more, written_all}

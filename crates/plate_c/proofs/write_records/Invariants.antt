@@ -1,3 +1,4 @@
+-- The records so far are written. Assumes nothing.
 use Rattle.std.proofs.Common.{◌≡◌}
 use Rattle.plate_c.specs.Answers.{record_of}
 use Rattle.plate_c.proofs.Writing.{written}

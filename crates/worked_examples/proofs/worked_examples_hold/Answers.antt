@@ -1,3 +1,4 @@
+-- Each example comes out by computing. Assumes nothing.
 use Rattle.std.proofs.Common.{refl}
 use Rattle.std.specs.Fmt.{digits}
 use Rattle.gauges.specs.Rulers.{root, root_from}

@@ -27,7 +27,7 @@ loop-call-preserved g c =
 pub returns-in_err-after : goal.returns-in_err-after
 returns-in_err-after g c =
     let old = c.loop-call in
-    let out : c.from_residual.result ≡ Err NoMemory = told_err c.from_residual.result NoMemory c.from_residual.ensures.0 c.from_residual.ensures.1 in
+    let out : c.from_residual.result ≡ Err NoMemory = told_err c.from_residual.result NoMemory c.from_residual.ensures.1 in
     let same = c.in_err-after.ensures.stopped in
     rw out (
       refl,
@@ -41,7 +41,7 @@ returns-in_err-after g c =
 pub returns-in_err-push : goal.returns-in_err-push
 returns-in_err-push g c =
     let old = c.loop-call in
-    let out : c.from_residual-in_err-push.result ≡ Err NoMemory = told_err c.from_residual-in_err-push.result NoMemory c.from_residual-in_err-push.ensures.0 c.from_residual-in_err-push.ensures.1 in
+    let out : c.from_residual-in_err-push.result ≡ Err NoMemory = told_err c.from_residual-in_err-push.result NoMemory c.from_residual-in_err-push.ensures.1 in
     let answers = old.answers.items ++ c.in_ok-after.answer ∷ [] in
     let end = state c.in_ok-after.after c.carry_out.new.cells c.carry_out.new.groups c.carry_out.new.first c.carry_out.new.second in
     rw out (

@@ -1,7 +1,7 @@
--- The plate is opened over the lent c.args. Assumes nothing.
+-- The plate is opened over the lent tables. Assumes nothing.
 use Rattle.std.proofs.Common.{◌≡◌, map, Err, sym, subst}
 use Rattle.std.proofs.lemmas.Result.{MatchResult-weaker}
-use Rattle.runs.specs.Runs.{LeftOver, Stops, holding, opening_back, rooms}
+use Rattle.runs.specs.Runs.{LeftOver, Stops, holding, opening_back, rooms_held}
 use Rattle.runs.specs.declared.stopped.Stopped.TheVariants.{Refused}
 use Rattle.runs.proofs.Errors.{told_err}
 use Rattle.runs.proofs.Openings.{as_held, leaves, ran}
@@ -11,7 +11,7 @@ pub returns-in_err-draft : goal.returns-in_err-draft
 returns-in_err-draft g c =
     let e = c.in_err-draft.field-0.0 in
     let opens = c.in_err-draft.ensures in
-    let out : c.from_residual.result ≡ Err (Refused e) = told_err c.from_residual.result (Refused e) c.from_residual.ensures.0 c.from_residual.ensures.1 in
+    let out : c.from_residual.result ≡ Err (Refused e) = told_err c.from_residual.result (Refused e) c.from_residual.ensures.1 in
     rw out (opens.answer, as_held c.args.rows c.args.columns c.args.cells.now c.open.new.cells c.args.groups.now c.open.new.groups c.args.first.now c.args.second.now c.args.entries.now e opens)
 
 pub returns : goal.returns
@@ -27,5 +27,5 @@ returns g c =
     MatchResult-weaker c.carry_out_all.result c.carry_out_all.ensures
     (λ answers h. ran kind rows crossing sums c.args.rows c.args.columns c.args.cells.now c.open.new.cells c.args.groups.now c.open.new.groups c.args.first.now c.args.second.now c.args.entries.now c.in_ok-draft.draft as_call c.args.calls.now opens answers.items left h.0 h.1)
     (λ e h.
-    subst (λ e. Stops (opening_back (rooms held.cells held.groups held.first held.second held.entries) c.args.rows c.args.columns) e × LeftOver c.args.rows c.args.columns kind rows crossing sums (map as_call c.args.calls.now) held left e) (sym h.0)
+    subst (λ e. Stops (opening_back (rooms_held held) c.args.rows c.args.columns) e × LeftOver c.args.rows c.args.columns kind rows crossing sums (map as_call c.args.calls.now) held left e) (sym h.0)
     (opens.answer.0, (h.1.0, leaves kind rows crossing sums c.args.rows c.args.columns c.args.cells.now c.open.new.cells c.args.groups.now c.open.new.groups c.args.first.now c.args.second.now c.args.entries.now c.in_ok-draft.draft as_call c.args.calls.now opens h.1.0 left h.1.1)))
