@@ -15,3 +15,5 @@ pub mod AddedPaths
 pub mod JoinedPaths
 pub mod LeastSums
 pub mod Gaps
+pub mod ShortestSums
+pub mod GapSums

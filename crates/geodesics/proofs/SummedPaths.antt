@@ -72,7 +72,7 @@ then_short j n None cells short e = absurd (grind arith)
 then_short j n (Some rest) cells short e = let same : j ∷ rest ≡ cells = cc in omega (arith, ap length same, short rest refl)
 
 -- a way within n cells has at most n
-way_short : {R : Type 0} (row : R) (map : List (MapRecord R)) (n j : ℕ) (cells : List ℕ) → way_within row map n j ≡ Some cells → length cells ≤ n
+pub way_short : {R : Type 0} (row : R) (map : List (MapRecord R)) (n j : ℕ) (cells : List ℕ) → way_within row map n j ≡ Some cells → length cells ≤ n
 unfolding way_within
 way_short row map zero j cells e = absurd (grind arith)
 way_short row map (suc n) j cells e =
@@ -92,7 +92,7 @@ module _ {L R : Type 0} {kind : Kind L} {rows : Rows L R} (laws : KindLaws kind 
       (λ _. record_kept ranked j)
 
   -- a row of the measured map is that of the length that it is read as
-  row_kept : (g : Crossing L) (b : Board) (group j : ℕ) → j < area b.size →
+  pub row_kept : (g : Crossing L) (b : Board) (group j : ℕ) → j < area b.size →
       let row = (measured rows (measuring_by kind g b group) j).length in
       rows.encode (rows.decode row) ≡ row
   unfolding measured_map

@@ -3,6 +3,7 @@
 #![tactic(auto)]
 
 ghost use Rattle.geodesics.specs.Between.{GapIsLeast, OverEveryRuler, RouteIsShortest};
+ghost use Rattle.geodesics.specs.GapSums.{PublishedGap};
 ghost use Rattle.geodesics.specs.Least.{BarredEverywhere, LeastLengths, LinksAreWays, OverEveryGauge};
 ghost use Rattle.geodesics.specs.Needed.{FirstIsNeeded, GrowthIsNeeded, OrderIsNeeded};
 ghost use Rattle.geodesics.specs.Transform.{PublishedTransform};
@@ -40,6 +41,12 @@ pub fn rulers_give_the_transform()
 // no such path.
 pub fn gap_is_least<K: Length>()
     ensures { OverEveryRuler K.Length.kind K.Length.rows GapIsLeast }
+{}
+
+// By the four rulers the gap is the least sum of the step formula over lists of neighbours between the groups, with no cap reached: gaps
+// stay below 2^40.
+pub fn rulers_give_the_gap()
+    ensures { PublishedGap }
 {}
 
 // Over every lawful ruler a cell is marked exactly when it lies on a path between the groups that is as short as any.
