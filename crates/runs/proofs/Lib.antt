@@ -13,3 +13,5 @@ pub mod Errors
 pub mod Happenings
 pub mod Sizes
 pub mod Leading
+pub mod Heights
+pub mod Sums

@@ -5,3 +5,4 @@ pub mod Truths
 pub mod Steps
 pub mod Plates
 pub mod Runs
+pub mod Sums

@@ -2,6 +2,7 @@
 #![tactic(auto)]
 
 ghost use Rattle.runs.specs.Steps.{GaugeRuns, RulerRuns};
+ghost use Rattle.runs.specs.Sums.{PublishedRuns};
 
 pub mod answer;
 pub mod call;
@@ -27,4 +28,11 @@ pub fn calls_tell_the_truth<K: Length>()
 // Over every lawful ruler, with the gap and the route.
 pub fn ruler_calls_tell_the_truth<K: Length>()
     ensures { RulerRuns K.Length.kind K.Length.rows }
+{}
+
+// By the four rulers each distance that is answered is the least sum of the step formula over the lists of neighbours that end at its cell,
+// and each gap the least over those between the groups, on the plate at that moment and with no cap reached; none is answered only where
+// there is no such list.
+pub fn answers_are_least_sums()
+    ensures { PublishedRuns }
 {}
