@@ -1,18 +1,20 @@
 // The gap of a sheet's plate, measured by chessboard.
-ghost use Rattle.std.specs.Prelude.{◌≡◌, ◌≤◌, length, string_bytes, IfOk};
+ghost use Rattle.std.specs.Prelude.{◌≡◌, ◌≤◌, length, Ok};
 ghost use Rattle.board.specs.Sizes.{area};
 ghost use Rattle.console.specs.Gaps.{board_gap, by_chessboard, gap_text, sheet_gap};
 ghost use Rattle.lengths.specs.Wholes.{whole_rows};
 ghost use Rattle.measuring.specs.Maps.{filled};
 ghost use Rattle.plate.specs.Maps.{measured};
 
+use crate::Line;
+use crate::lines::{line_of_fault, push_part};
 use board::{Cell, MapRecord};
 use gauges::{Chessboard, WholeRuler};
+use itoa::Buffer;
 use lengths::Whole;
 use plate::{Draft, Readings};
 use queue::Offer;
 use sheets::{Fault, read_sheet};
-use std::alloc::{AllocError, Global};
 
 // How many cells the tables hold, and how many entries the queue.
 const CELLS: usize = 256;
@@ -62,13 +64,27 @@ pub fn sheet_gap(sheet: &[u8]) -> Result<Option<Whole>, Fault>
     Ok(plate_gap(&mut draft, &cells, &groups))
 }
 
+// The line of a gap, or of none.
+fn line_of_gap(gap: Option<Whole>) -> Line
+    ensures { result.bytes ≡ gap_text (Ok gap) }
+{
+    let mut digits = Buffer::new();
+    let mut line = Line::new();
+    line.push_str("gap");
+    match gap {
+        Some(gap) => push_part(&mut line, digits.format(gap.units)),
+        None => push_part(&mut line, "none"),
+    }
+    line.push_str("\n");
+    line
+}
+
 // The line that `gap` prints of a sheet.
-pub fn gap_line(alloc: Global, sheet: &[u8]) -> Result<String, AllocError>
-    ensures { IfOk result (λ line. string_bytes line ≡ gap_text (sheet_gap sheet.now)) }
+pub fn gap_line(sheet: &[u8]) -> Line
+    ensures { result.bytes ≡ gap_text (sheet_gap sheet.now) }
 {
     match sheet_gap(sheet) {
-        Ok(Some(gap)) => format!(in alloc; "gap\t{}\n", gap.units),
-        Ok(None) => format!(in alloc; "gap\tnone\n"),
-        Err(fault) => format!(in alloc; "{fault}\n"),
+        Ok(gap) => line_of_gap(gap),
+        Err(fault) => line_of_fault(fault),
     }
 }

@@ -2,5 +2,7 @@
 #![tactic(auto)]
 
 pub mod gaps;
+pub mod lines;
 
 pub use gaps::{gap_line, sheet_gap};
+pub use lines::Line;

@@ -9,6 +9,6 @@ use std::io::Read;
 fn main(rt: HostRuntime) -> io::Result<()> {
     let mut sheet = Vec::new(rt.alloc());
     rt.stdin().take(LONGEST as u64 + 1).read_to_end(&mut sheet)?;
-    let line = gap_line(rt.alloc(), &sheet)?;
+    let line = gap_line(&sheet);
     print!(rt; "{line}")
 }

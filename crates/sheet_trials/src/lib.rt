@@ -426,27 +426,67 @@ mod tests {
         assert_eq!(rt; figure.keyword(), Err(at(Refusal::Line)));
     }
 
-    fn check_line(rt: &(impl Abort + AllocGlobal), sheet: &[u8], line: &str) -> Result<(), Fail> {
-        let printed = gap_line(rt.alloc(), sheet)?;
-        assert_eq!(rt; printed.as_str(), line);
+    fn check_line(rt: &impl Abort, sheet: &[u8], line: &str) {
+        assert_eq!(rt; gap_line(sheet).as_str(), line);
+    }
+
+    #[test]
+    fn gaps_are_printed(rt: HostRuntime) {
+        let board =
+            b"plate\t2\t3\ncell\t0\t0\t0\t1\ncell\t0\t1\t9\t0\ncell\t0\t2\t0\t2\nenrol\t1\t1\nenrol\t2\t2\n";
+        check_line(&rt, board, "gap\t2\n");
+        check_line(&rt, b"plate\t16\t16\n", "gap\tnone\n");
+    }
+
+    // One row, in which each step rises or falls by 65,535: 255 steps of 65,536, and 256 cells have no greater gap.
+    #[test]
+    fn greatest_gap_is_printed(rt: HostRuntime) -> Result<(), Fail> {
+        let mut sheet = Vec::from_slice(rt.alloc(), b"plate\t1\t256\ncell\t0\t0\t0\t1\n")?;
+        for pair in 0..127u16 {
+            let peak = format!(in rt.alloc(); "cell\t0\t{}\t65535\t0\n", 2 * pair + 1)?;
+            sheet.extend_from_slice(peak.as_bytes())?;
+        }
+        sheet.extend_from_slice(b"cell\t0\t255\t65535\t2\nenrol\t1\t1\nenrol\t2\t2\n")?;
+        check_line(&rt, &sheet, "gap\t16711680\n");
         Ok(())
     }
 
     #[test]
-    fn gaps_are_printed(rt: HostRuntime) -> Result<(), Fail> {
-        let board =
-            b"plate\t2\t3\ncell\t0\t0\t0\t1\ncell\t0\t1\t9\t0\ncell\t0\t2\t0\t2\nenrol\t1\t1\nenrol\t2\t2\n";
-        check_line(&rt, board, "gap\t2\n")?;
-        check_line(&rt, b"plate\t16\t16\n", "gap\tnone\n")
-    }
-
-    #[test]
-    fn faults_are_printed(rt: HostRuntime) -> Result<(), Fail> {
+    fn faults_are_printed(rt: HostRuntime) {
         let off =
             b"plate\t2\t3\ncell\t0\t3\t0\t1\ncell\t0\t1\t9\t0\ncell\t0\t2\t0\t2\nenrol\t1\t1\nenrol\t2\t2\n";
-        check_line(&rt, off, "fault\tplate\t2\t2\t3\n")?;
-        check_line(&rt, b"plate\t17\t16\n", "fault\tplate\t1\t0\t2\n")?;
-        check_line(&rt, b"plate\t2\t03\n", "fault\tfigure\t1\t2\t12\n")?;
-        check_line(&rt, b"", "fault\tsheet\t1\t0\t13\n")
+        check_line(&rt, off, "fault\tplate\t2\t2\t3\n");
+        check_line(&rt, b"plate\t17\t16\n", "fault\tplate\t1\t0\t2\n");
+        check_line(&rt, b"plate\t2\t03\n", "fault\tfigure\t1\t2\t12\n");
+        check_line(&rt, b"", "fault\tsheet\t1\t0\t13\n");
+        check_line(&rt, &[b'\n'; 32768], "fault\tsheet\t1\t0\t11\n");
+    }
+
+    // `Display` comes to its end.
+    #[test]
+    fn faults_print_themselves(rt: HostRuntime) -> Result<(), Fail> {
+        let fault = Fault {
+            line: 4096,
+            field: 2,
+            refusal: Refusal::Figure,
+        };
+        let printed = format!(in rt.alloc(); "{fault}")?;
+        assert_eq!(rt; printed.as_str(), "fault\tfigure\t4096\t2\t12");
+        Ok(())
+    }
+
+    // No sheet has a later line at fault: 32,768 bytes are a plate line of 10, 4,094 lines of 8 and one of 6.
+    #[test]
+    fn fault_of_the_last_line_is_printed(rt: HostRuntime) -> Result<(), Fail> {
+        let mut sheet = Vec::from_slice(rt.alloc(), b"plate\t1\t1\n")?;
+        for _ in 0..4094 {
+            sheet.extend_from_slice(b"bar\t0\t0\n")?;
+        }
+        sheet.extend_from_slice(b"bar\t\t\n")?;
+        assert_eq!(rt; sheet.len(), 32768);
+        check_line(&rt, &sheet, "fault\tfigure\t4096\t1\t12\n");
+        sheet.push(b'\n')?;
+        check_line(&rt, &sheet, "fault\tsheet\t0\t0\t14\n");
+        Ok(())
     }
 }
