@@ -1,1 +1,3 @@
 pub mod Fronts
+pub mod GapSums
+pub mod Heights

@@ -1,1 +1,2 @@
+pub mod GapSums
 pub mod Gaps

@@ -1,6 +1,7 @@
 // The gap of a sheet's plate, measured by chessboard.
 ghost use Rattle.std.specs.Prelude.{◌≡◌, ◌≤◌, length, Ok};
 ghost use Rattle.board.specs.Sizes.{area};
+ghost use Rattle.console.specs.GapSums.{GivesLeastGap, TellsLeastGap};
 ghost use Rattle.console.specs.Gaps.{board_gap, by_chessboard, gap_text, sheet_gap};
 ghost use Rattle.lengths.specs.Wholes.{whole_rows};
 ghost use Rattle.measuring.specs.Maps.{filled};
@@ -55,8 +56,10 @@ fn plate_gap(draft: &mut Draft, cells: &[Cell], groups: &[u8]) -> Option<Whole>
 }
 
 // The gap of the plate that a sheet gives in tables for 256 cells, or the sheet's fault.
+#[tactic(auto, using(crate::proofs::GapSums::gap_given))]
 pub fn sheet_gap(sheet: &[u8]) -> Result<Option<Whole>, Fault>
-    ensures { result ≡ sheet_gap sheet.now }
+    ensures gap { result ≡ sheet_gap sheet.now }
+    ensures least { GivesLeastGap sheet.now result }
 {
     let mut cells = [Cell::BARE; CELLS];
     let mut groups = [0; 64];
@@ -79,9 +82,12 @@ fn line_of_gap(gap: Option<Whole>) -> Line
     line
 }
 
-// The line that `gap` prints of a sheet.
+// The line that `gap` prints of a sheet. A number that it has is the least sum of steps between the groups, and not only what
+// the maps give.
+#[tactic(auto, using(crate::proofs::GapSums::gap_told))]
 pub fn gap_line(sheet: &[u8]) -> Line
-    ensures { result.bytes ≡ gap_text (sheet_gap sheet.now) }
+    ensures text { result.bytes ≡ gap_text (sheet_gap sheet.now) }
+    ensures least { TellsLeastGap sheet.now result.bytes }
 {
     match sheet_gap(sheet) {
         Ok(gap) => line_of_gap(gap),
