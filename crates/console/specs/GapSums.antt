@@ -1,5 +1,4 @@
--- What the gap of a sheet, and the line that `gap` prints of it, say of the lists of neighbours between the groups of the sheet's board. Assumes
--- nothing.
+-- What the gap of a sheet and its line say of lists of neighbours between the groups of its board. Assumes nothing.
 use Rattle.std.specs.Prelude.{◌≡◌, ◌↔◌, ℕ, ◌^◌, ◌<◌, List, Some, None, Ok, Err, Option, Result, replicate, IsOkAnd, MatchOption}
 use Rattle.console.specs.Gaps.{gap_text}
 use Rattle.gauges.specs.Rulers.{chessboard_units}
