@@ -74,5 +74,5 @@ fn run(rt: &(impl Print + AllocGlobal)) -> Result<(), Stop> {
 }
 
 fn main(rt: HostRuntime) -> io::Result<()> {
-    finish(&rt, run(&rt))
+    finish(&mut io::writer(&rt), run(&rt))
 }

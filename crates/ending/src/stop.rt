@@ -2,9 +2,11 @@
 ghost use Rattle.std.specs.Prelude.{◌≡◌, Ok, Err};
 ghost use Rattle.std.specs.IoError.{error_kind};
 ghost use Rattle.std.specs.declared.io.ErrorKind.TheVariants.{OutOfMemory};
-ghost use Rattle.ending.specs.Ends.{stop_text};
+ghost use Rattle.ending.specs.Ends.{line, refusal_text, stop_text};
 ghost use Rattle.ending.specs.declared.stop.Stop.TheVariants as stop;
+ghost use Rattle.sheets.specs.Words.{fault_text};
 
+use crate::output::Output;
 use board::Refusal;
 use gauges::SentBack;
 use sheets::Fault;
@@ -74,14 +76,16 @@ impl fmt::Display for Stop {
     }
 }
 
-// Ends a program: prints the fault or the refusal that stopped it, and hands an error of the system on.
-pub fn finish(rt: &impl Print, outcome: Result<(), Stop>) -> io::Result<()>
-    ensures done { outcome ≡ Ok tt → result ≡ Ok tt }
-    ensures system { (error : _) → outcome ≡ Err (stop.System error) → result ≡ Err error }
+// Ends a program: prints the fault or the refusal that stopped it as a line, and hands an error of the system on.
+pub fn finish<O: Output>(out: &mut O, outcome: Result<(), Stop>) -> io::Result<()>
+    ensures success { outcome ≡ Ok tt → (result ≡ Ok tt) × (out.new ≡ out.old) }
+    ensures fault { (fault : _) → outcome ≡ Err (stop.Fault fault) → O.print_gives out.old (line (fault_text fault)) result out.new }
+    ensures refusal { (refusal : _) → outcome ≡ Err (stop.Refused refusal) → O.print_gives out.old (line (refusal_text refusal)) result out.new }
+    ensures system { (error : _) → outcome ≡ Err (stop.System error) → (result ≡ Err error) × (out.new ≡ out.old) }
 {
     match outcome {
         Ok(()) => Ok(()),
         Err(Stop::System(error)) => Err(error),
-        Err(stop) => println!(rt; "{stop}"),
+        Err(stop) => out.print(format_args!("{stop}\n")),
     }
 }

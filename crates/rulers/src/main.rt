@@ -145,5 +145,5 @@ fn measure_all(rt: &(impl Print + AllocGlobal)) -> Result<(), Stop> {
 }
 
 fn main(rt: HostRuntime) -> io::Result<()> {
-    finish(&rt, measure_all(&rt))
+    finish(&mut io::writer(&rt), measure_all(&rt))
 }

@@ -79,5 +79,5 @@ fn survey(rt: &(impl Print + AllocGlobal), input: &[u8]) -> Result<(), Stop> {
 fn main(rt: HostRuntime) -> io::Result<()> {
     let mut input = Vec::new(rt.alloc());
     rt.stdin().take(LONGEST as u64 + 1).read_to_end(&mut input)?;
-    finish(&rt, survey(&rt, &input))
+    finish(&mut io::writer(&rt), survey(&rt, &input))
 }
