@@ -78,7 +78,7 @@ impl fmt::Display for Stop {
 
 // Ends a program: prints the fault or the refusal that stopped it as a line, and hands an error of the system on.
 pub fn finish<O: Output>(out: &mut O, outcome: Result<(), Stop>) -> io::Result<()>
-    ensures success { outcome ≡ Ok tt → (result ≡ Ok tt) × (out.new ≡ out.old) }
+    ensures done { outcome ≡ Ok tt → (result ≡ Ok tt) × (out.new ≡ out.old) }
     ensures fault { (fault : _) → outcome ≡ Err (stop.Fault fault) → O.print_gives out.old (line (fault_text fault)) result out.new }
     ensures refusal { (refusal : _) → outcome ≡ Err (stop.Refused refusal) → O.print_gives out.old (line (refusal_text refusal)) result out.new }
     ensures system { (error : _) → outcome ≡ Err (stop.System error) → (result ≡ Err error) × (out.new ≡ out.old) }
