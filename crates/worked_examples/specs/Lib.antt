@@ -4,3 +4,7 @@ pub mod Limits
 pub mod Examples
 pub mod Refusals
 pub mod Sheets
+pub mod Tampered
+pub mod Fields
+pub mod Orders
+pub mod SheetOrders
