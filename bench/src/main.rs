@@ -2,7 +2,7 @@
 mod library;
 mod plain;
 
-use library::{Record, Spot, measure};
+use library::{Record, Spot, Tables, measure};
 use plain::Plain;
 use std::time::Instant;
 
@@ -40,19 +40,20 @@ fn timed(work: impl FnOnce()) -> f64 {
 // One board, measured in turn by both: milliseconds of one measuring.
 fn compare(side: usize, spots: &[Spot]) -> (f64, f64) {
     let mut records = vec![Record::default(); spots.len()];
+    let mut tables = Tables::new(spots.len());
     let mut plain = Plain::new(side, spots);
-    let counts = measure(side, spots, 1, &mut records);
+    let counts = measure(side, spots, 1, &mut tables, &mut records);
     assert_eq!(counts, plain.measure());
     assert!(records == plain.map);
     let batch = (1 << 18) / spots.len();
     let (mut ours, mut theirs) = (Vec::new(), Vec::new());
     for _ in 0..RUNS {
-        // What it takes to make the tables is taken off.
+        // What it takes to enter the board and to write the records is taken off.
         let once = timed(|| {
-            measure(side, spots, 1, &mut records);
+            measure(side, spots, 1, &mut tables, &mut records);
         });
         let more = timed(|| {
-            measure(side, spots, 1 + batch, &mut records);
+            measure(side, spots, 1 + batch, &mut tables, &mut records);
         });
         ours.push((more - once) / batch as f64 * 1e3);
         let all = timed(|| {

@@ -1,2 +1,4 @@
 pub mod Handing
+pub mod Sizes
+pub mod Steps
 pub mod Writing

@@ -1,5 +1,5 @@
 -- What measuring for C answers and writes. Assumes nothing.
-use Rattle.std.specs.Prelude.{◌≡◌, ◌⊎◌, ℕ, ◌*◌, false, cond, not, ◌||◌, List, ◌++◌, map, length, drop, replicate, Some, None, Option, ◌==◌, nat_lt}
+use Rattle.std.specs.Prelude.{◌≡◌, ℕ, ◌*◌, Bool, false, cond, not, ◌||◌, List, ◌++◌, map, length, drop, replicate, Some, None, Option, ◌==◌, nat_lt}
 use Rattle.std.specs.List.{list_any}
 use Rattle.board.specs.Refusals.{number, refuse}
 use Rattle.board.specs.Sizes.{Sized, area, bad_size}
@@ -18,25 +18,19 @@ use Rattle.measuring.specs.Paths.{Measuring, measuring}
 use Rattle.measuring.specs.declared.Counts.{Counts}
 use Rattle.plate.specs.Edits.{group_put}
 use Rattle.plate_c.specs.declared.Record.{Record}
+use Rattle.plate_c.specs.declared.Room.{Room}
 use Rattle.plate_c.specs.declared.Spot.{Spot}
-use Rattle.plate_c.specs.declared.Stop.{Stop}
-use Rattle.plate_c.specs.declared.Stop.TheVariants.{Memory, Sent}
 
--- a size that no plate has; spots that are not one for each cell, or a table of records with no room for the map; a pad above 64
-abbrev pub plate_refusal : ℕ → ℕ → List Spot → ℕ → Option Refusal
-plate_refusal rows columns spots records =
+-- a table has no room for a board of so many cells: each takes one, and the queue's nine for each cell
+abbrev pub short_of : Room → ℕ → Bool
+short_of room n = nat_lt room.cells n || (nat_lt room.map n || (nat_lt room.entries (9 * n) || nat_lt room.records n))
+
+-- a size that no plate has; spots that are not one for each cell, or a table with no room; a pad above 64
+abbrev pub plate_refusal : ℕ → ℕ → List Spot → Room → Option Refusal
+plate_refusal rows columns spots room =
     refuse (bad_size rows columns) refusal.Size
-    (refuse (not (length spots == rows * columns) || nat_lt records (rows * columns)) refusal.Tables
+    (refuse (not (length spots == rows * columns) || short_of room (rows * columns)) refusal.Tables
     (refuse (list_any (λ spot. nat_lt 64 spot.pad) spots) refusal.Pad None))
-
--- what stops a call: its refusal, or want of memory where it has none
-abbrev pub stopped_by : Option Refusal → Stop
-stopped_by None = Memory
-stopped_by (Some e) = Sent e
-
-abbrev pub stop_number : Stop → ℕ
-stop_number Memory = 255
-stop_number (Sent e) = number e
 
 -- an open cell with a spot's height and pad
 abbrev pub spot_cell : Spot → Cell
@@ -65,9 +59,8 @@ pub record Measured (rows columns : ℕ) (spots : List Spot) (out out' : List Re
   pub table : out' ≡ map record_of (measured_map whole_rows (spots_measured size spots)) ++ drop (area size) out
   pub counted : counts ≡ counts_of (spots_measured size spots)
 
--- what a call answers, and what the table and the counts are afterwards: 0, and the plate is measured; 255 for want of memory, and they are as they
--- were; or, where something stands against it, that refusal's number, and they are as they were
+-- what a call answers, and what the records and the counts are afterwards: 0, and the plate is measured; or, where something stands against
+-- it, that refusal's number, and they are as they were
 abbrev pub Answers : Option Refusal → ℕ → ℕ → List Spot → List Record → List Record → Counts → Counts → ℕ → Type 0
-Answers None rows columns spots out out' counts counts' answer =
-    ((answer ≡ 0) × Measured rows columns spots out out' counts') ⊎ ((answer ≡ 255) × (out' ≡ out) × (counts' ≡ counts))
+Answers None rows columns spots out out' counts counts' answer = (answer ≡ 0) × Measured rows columns spots out out' counts'
 Answers (Some e) rows columns spots out out' counts counts' answer = (answer ≡ number e) × (out' ≡ out) × (counts' ≡ counts)

@@ -1,1 +1,4 @@
 pub mod Answers
+pub mod Lent
+pub mod Loans
+pub mod Tables

@@ -1,22 +1,27 @@
-// Measuring for programs that are not written in Rattle, over numbers and slices alone: what bench/ times. The tables are made
-// inside, since a generic struct does not pass to C, and a call may measure many times, so that making them can be taken off. That
-// C's slices and references are what they say is the caller's part.
+// Measuring for programs that are not written in Rattle, over numbers, slices and lent tables: what bench/ times. Nothing is
+// allocated, so a call always answers; and a call may measure many times, so that entering the board can be taken off. That C's
+// slices, references and tables are what they say is the caller's part.
 #![tactic(auto)]
 
-ghost use Rattle.std.specs.Prelude.{◌≡◌, ◌*◌, ◌≤◌, ◌++◌, Some, None, map, length, drop, MatchResult, nat_lt};
+mod lent;
+
+ghost use Rattle.std.specs.Prelude.{◌≡◌, ◌*◌, ◌≤◌, ◌++◌, Some, None, map, length, drop, IfSome, MatchResult, nat_lt};
 ghost use Rattle.std.specs.List.{list_any};
 ghost use Rattle.board.specs.Sizes.{Sized, area};
 ghost use Rattle.lengths.specs.Wholes.{whole_rows};
 ghost use Rattle.measuring.specs.Maps.{counts_of, measured_map};
-ghost use Rattle.plate_c.specs.Answers.{Answers, Measured, by_chessboard, only_pad_1, plate_refusal, record_of, spot_cell, stop_number, stopped_by};
-ghost use Rattle.plate_c.specs.declared.Stop.TheVariants as stop;
+ghost use Rattle.plate_c.specs.Answers.{Answers, Measured, by_chessboard, only_pad_1, plate_refusal, record_of, short_of, spot_cell};
+ghost use Rattle.plate_c.specs.Tables.{Stay, room_of};
 
 use board::{Cell, MapRecord, Refusal, Size};
 use gauges::{Chessboard, WholeRuler};
+pub use lent::{LentCells, LentEntries, LentMap, Tables};
 use measuring::Counts;
 use plate::Draft;
 use queue::Offer;
-use std::alloc::{AllocError, Global};
+
+// What a call answers that has measured.
+const MEASURED: u8 = 0;
 
 const BY_CHESSBOARD: WholeRuler<Chessboard> = WholeRuler(Chessboard);
 
@@ -65,37 +70,22 @@ impl From<Spot> for Cell {
     }
 }
 
-// What stopped a measuring.
-#[derive(Drop)]
-enum Stop {
-    Memory,
-    Sent(Refusal),
+// How many cells, records of a map, entries of a queue and records for C there is room for.
+#[derive(Clone, Copy)]
+pub struct Room {
+    pub cells: usize,
+    pub map: usize,
+    pub entries: usize,
+    pub records: usize,
 }
 
-impl From<AllocError> for Stop {
-    ghost from_gives = { λ _ end. end ≡ stop.Memory };
-
-    fn from(_: AllocError) -> Stop {
-        Stop::Memory
-    }
-}
-
-impl From<Refusal> for Stop {
-    ghost from_gives = { λ refusal end. end ≡ stop.Sent refusal };
-
-    fn from(refusal: Refusal) -> Stop {
-        Stop::Sent(refusal)
-    }
-}
-
-impl Stop {
-    fn number(self) -> u8
-        ensures { result ≡ stop_number self }
+impl Room {
+    // Whether a board of so many cells has no room in one of them.
+    fn is_short_of(self, area: usize) -> bool
+        requires { area ≤ 65536 }
+        ensures { result ≡ short_of self area }
     {
-        match self {
-            Stop::Memory => 255,
-            Stop::Sent(refusal) => refusal.number(),
-        }
+        self.cells < area || self.map < area || self.entries < 9 * area || self.records < area
     }
 }
 
@@ -106,12 +96,12 @@ fn has_unknown_pad(spots: &[Spot]) -> bool
     spots.iter().any(|spot| spot.pad > 64)
 }
 
-// The plate's size, where nothing stands against measuring it into so many records.
-fn size_of(rows: u16, columns: u16, spots: &[Spot], records: usize) -> Result<Size, Refusal>
-    ensures { MatchResult result (λ size. (plate_refusal rows columns spots.now records ≡ None) × Sized size rows columns) (λ e. plate_refusal rows columns spots.now records ≡ Some e) }
+// The plate's size, where nothing stands against measuring it in this room.
+fn size_of(rows: u16, columns: u16, spots: &[Spot], room: Room) -> Result<Size, Refusal>
+    ensures { MatchResult result (λ size. (plate_refusal rows columns spots.now room ≡ None) × Sized size rows columns) (λ e. plate_refusal rows columns spots.now room ≡ Some e) }
 {
     let size = Size::new(rows, columns)?;
-    if spots.len() != size.area() || records < size.area() {
+    if spots.len() != size.area() || room.is_short_of(size.area()) {
         return Err(Refusal::Tables);
     }
     if has_unknown_pad(spots) {
@@ -182,58 +172,89 @@ fn write_records(out: &mut [Record], found: &[MapRecord<u64>])
     }
 }
 
-// Measures the plate of the spots in tables of its own, and writes the map. What stops it comes before anything is written.
+// Measures the plate of the spots in the tables, and writes the map. What stops it comes before anything is written.
 fn measured(
-    alloc: Global,
     rows: u16,
     columns: u16,
     spots: &[Spot],
     times: usize,
+    cells: &mut [Cell],
+    map: &mut [MapRecord<u64>],
+    entries: &mut [Offer<u64>],
     out: &mut [Record],
-) -> Result<Counts, Stop>
-    ensures { let refused = plate_refusal rows columns spots.now (length out.old) in MatchResult result (λ counts. (refused ≡ None) × Measured rows columns spots.now out.old out.new counts) (λ stop. (stop ≡ stopped_by refused) × (out.new ≡ out.old)) }
+) -> Result<Counts, Refusal>
+    ensures outcome { let refused = plate_refusal rows columns spots.now (record {
+      cells = length cells.old;
+      map = length map.old;
+      entries = length entries.old;
+      records = length out.old;
+    }) in
+        MatchResult result
+        (λ counts. (refused ≡ None) × Measured rows columns spots.now out.old out.new counts)
+        (λ e. (refused ≡ Some e) × (out.new ≡ out.old) × (cells.new ≡ cells.old) × (map.new ≡ map.old) × (entries.new ≡ entries.old)) }
+    ensures cells { drop (rows * columns) cells.new ≡ drop (rows * columns) cells.old }
+    ensures map { drop (rows * columns) map.new ≡ drop (rows * columns) map.old }
+    ensures entries { drop (9 * (rows * columns)) entries.new ≡ drop (9 * (rows * columns)) entries.old }
 {
-    let size = size_of(rows, columns, spots, out.len())?;
+    let room = Room {
+        cells: cells.len(),
+        map: map.len(),
+        entries: entries.len(),
+        records: out.len(),
+    };
+    let size = size_of(rows, columns, spots, room)?;
     let area = size.area();
-    let mut cells = Vec::from_elem(alloc, Cell::BARE, area)?;
-    let mut map = Vec::from_elem(alloc, MapRecord::unreached(0), area)?;
-    let mut entries = Vec::from_elem(alloc, Offer { length: 0, cell: 0 }, 9 * area)?;
+    let cells = &mut cells[..area];
+    let map = &mut map[..area];
+    let entries = &mut entries[..9 * area];
     let mut groups = [0; 64];
-    let mut draft = entered(size, spots, &mut cells, &mut groups);
-    let counts = measure(&mut draft, &cells, &groups, times, &mut map, &mut entries);
-    write_records(out, &map);
+    let mut draft = entered(size, spots, cells, &mut groups);
+    let counts = measure(&mut draft, cells, &groups, times, map, entries);
+    write_records(out, map);
     Ok(counts)
 }
 
 // Measures group 1 of a plate by chessboard so many times, and once where that is 0. The plate has a spot for each cell, and pad 1
-// alone is in group 1. Answers 0, and the map's records and the two counts are written; or a refusal's number, or 255 for want of
-// memory, and nothing is.
+// alone is in group 1. Answers 0, and the map's records and the two counts are written; or a refusal's number, and nothing is.
 #[unsafe(no_mangle)]
 pub extern "C" fn plate_measured(
-    alloc: Global,
     rows: u16,
     columns: u16,
     spots: &[Spot],
     times: usize,
+    tables: &mut Tables,
     out: &mut [Record],
     reached: &mut usize,
     steps: &mut usize,
 ) -> u8
-    ensures { Answers (plate_refusal rows columns spots.now (length out.old)) rows columns spots.now out.old out.new (record { reached = reached.old; steps = steps.old }) (record { reached = reached.new; steps = steps.new }) result }
+    ensures answer { let refused = plate_refusal rows columns spots.now (room_of tables.old (length out.old)) in
+        Answers refused rows columns spots.now out.old out.new
+        (record { reached = reached.old; steps = steps.old })
+        (record { reached = reached.new; steps = steps.new })
+        result }
+    ensures refused { let refused = plate_refusal rows columns spots.now (room_of tables.old (length out.old)) in
+        IfSome refused (λ _. tables.new ≡ tables.old) }
+    ensures tables { Stay (rows * columns) tables.old tables.new }
 {
-    match measured(alloc, rows, columns, spots, times, out) {
+    let cells = tables.cells.slice();
+    let map = tables.map.slice();
+    let entries = tables.entries.slice();
+    match measured(rows, columns, spots, times, cells, map, entries, out) {
         Ok(counts) => {
             *reached = counts.reached;
             *steps = counts.steps;
-            0
+            MEASURED
         }
-        Err(stop) => stop.number(),
+        Err(refusal) => refusal.number(),
     }
 }
 
 #[cfg(test)]
 mod tests {
     use super::*;
+    use std::alloc::{AllocError, Global};
+    use std::process::Abort;
+    use std::test::Fail;
 
     const UNTOUCHED: Record = Record {
         length: 7,
@@ -249,6 +270,30 @@ mod tests {
         Spot { height: 0, pad: 2 },
     ];
 
+    const BARE: Spot = Spot { height: 0, pad: 0 };
+
+    const UNKNOWN: Spot = Spot { height: 0, pad: 65 };
+
+    // Room for a board of three cells, and no more.
+    const THREE: Room = Room {
+        cells: 3,
+        map: 3,
+        entries: 27,
+        records: 3,
+    };
+
+    // Tables of these lengths. What they take is not given back.
+    fn tables(alloc: Global, room: Room) -> Result<Tables, AllocError> {
+        let cells = Vec::from_elem(alloc, Cell::BARE, room.cells)?;
+        let map = Vec::from_elem(alloc, MapRecord::unreached(0), room.map)?;
+        let entries = Vec::from_elem(alloc, Offer { length: 0, cell: 0 }, room.entries)?;
+        Ok(Tables {
+            cells: LentCells::of(cells.leak()),
+            map: LentMap::of(map.leak()),
+            entries: LentEntries::of(entries.leak()),
+        })
+    }
+
     fn record(length: u64, link: u16, rank: u16) -> Record {
         Record {
             length,
@@ -260,16 +305,17 @@ mod tests {
     }
 
     #[test]
-    fn a_hill_is_measured(rt: HostRuntime) {
+    fn a_hill_is_measured(rt: HostRuntime) -> Result<(), Fail> {
+        let mut tables = tables(rt.alloc(), THREE)?;
         for times in 0..3 {
             let mut out = [UNTOUCHED; 4];
             let (mut reached, mut steps) = (7, 7);
             let answer = plate_measured(
-                rt.alloc(),
                 1,
                 3,
                 &HILL,
                 times,
+                &mut tables,
                 &mut out,
                 &mut reached,
                 &mut steps,
@@ -286,34 +332,148 @@ mod tests {
                 ]
             );
         }
+        Ok(())
+    }
+
+    // A call in this room is sent back with this number, and writes nothing.
+    fn check_sent_back(
+        rt: &(impl Abort + AllocGlobal),
+        rows: u16,
+        columns: u16,
+        spots: &[Spot],
+        room: Room,
+        number: u8,
+    ) -> Result<(), Fail> {
+        let mut tables = tables(rt.alloc(), room)?;
+        let mut out = [UNTOUCHED; 257];
+        let (mut reached, mut steps) = (7, 7);
+        let answer = plate_measured(
+            rows,
+            columns,
+            spots,
+            1,
+            &mut tables,
+            &mut out[..room.records.min(257)],
+            &mut reached,
+            &mut steps,
+        );
+        assert_eq!(rt; answer, number);
+        assert_eq!(rt; (reached, steps), (7, 7));
+        assert!(rt; out == [UNTOUCHED; 257]);
+        Ok(())
     }
 
     #[test]
-    fn faulty_calls_are_sent_back(rt: HostRuntime) {
-        let unknown = [Spot { height: 0, pad: 65 }];
-        let cases: [(u16, u16, &[Spot], usize, u8); 5] = [
-            (0, 3, &HILL, 4, 1),
-            (1, 2, &HILL, 4, 2),
-            (1, 3, &HILL[1..], 4, 2),
-            (1, 3, &HILL, 2, 2),
-            (1, 1, &unknown, 1, 4),
-        ];
-        for (rows, columns, spots, room, number) in cases {
-            let mut out = [UNTOUCHED; 4];
-            let (mut reached, mut steps) = (7, 7);
-            let answer = plate_measured(
-                rt.alloc(),
-                rows,
-                columns,
-                spots,
-                1,
-                &mut out[..room],
-                &mut reached,
-                &mut steps,
-            );
-            assert_eq!(rt; answer, number);
-            assert_eq!(rt; (reached, steps), (7, 7));
-            assert_eq!(rt; out, [UNTOUCHED; 4]);
+    fn faulty_calls_are_sent_back(rt: HostRuntime) -> Result<(), Fail> {
+        let unknown = [BARE, BARE, UNKNOWN];
+        check_sent_back(&rt, 1, 2, &HILL, THREE, 2)?;
+        check_sent_back(&rt, 1, 3, &HILL[1..], THREE, 2)?;
+        check_sent_back(&rt, 1, 3, &HILL, Room { cells: 2, ..THREE }, 2)?;
+        check_sent_back(&rt, 1, 3, &HILL, Room { map: 2, ..THREE }, 2)?;
+        check_sent_back(
+            &rt,
+            1,
+            3,
+            &HILL,
+            Room {
+                entries: 26,
+                ..THREE
+            },
+            2,
+        )?;
+        check_sent_back(
+            &rt,
+            1,
+            3,
+            &HILL,
+            Room {
+                records: 2,
+                ..THREE
+            },
+            2,
+        )?;
+        check_sent_back(&rt, 1, 3, &unknown, THREE, 4)
+    }
+
+    // The least number is answered where several things stand against a call.
+    #[test]
+    fn the_first_fault_is_answered(rt: HostRuntime) -> Result<(), Fail> {
+        let unknown = [BARE, BARE, UNKNOWN];
+        let many = [UNKNOWN; 257];
+        let roomy = Room {
+            cells: 257,
+            map: 257,
+            entries: 2313,
+            records: 257,
+        };
+        check_sent_back(&rt, 0, 3, &HILL, THREE, 1)?;
+        check_sent_back(&rt, 257, 1, &many, roomy, 1)?;
+        check_sent_back(&rt, 1, 2, &unknown, THREE, 2)?;
+        check_sent_back(&rt, 1, 3, &unknown, Room { map: 2, ..THREE }, 2)?;
+        check_sent_back(
+            &rt,
+            1,
+            3,
+            &unknown,
+            Room {
+                records: 2,
+                ..THREE
+            },
+            2,
+        )
+    }
+
+    // A flat board with its source in the first cell is measured: all cells are reached, each is a step from its neighbours, and the
+    // last one is as far away as the longer side is long.
+    fn check_flat(
+        rt: &(impl Abort + AllocGlobal),
+        rows: u16,
+        columns: u16,
+        counts: Counts,
+        last: u64,
+    ) -> Result<(), Fail> {
+        let area = usize::from(rows) * usize::from(columns);
+        let mut spots = Vec::from_elem(rt.alloc(), BARE, area)?;
+        if let Some(first) = spots.first_mut() {
+            first.pad = 1;
         }
+        let mut out = Vec::from_elem(rt.alloc(), UNTOUCHED, area)?;
+        let exact = Room {
+            cells: area,
+            map: area,
+            entries: 9 * area,
+            records: area,
+        };
+        let mut tables = tables(rt.alloc(), exact)?;
+        let (mut reached, mut steps) = (7, 7);
+        let answer = plate_measured(
+            rows,
+            columns,
+            &spots,
+            1,
+            &mut tables,
+            &mut out,
+            &mut reached,
+            &mut steps,
+        );
+        assert_eq!(rt; answer, 0);
+        assert_eq!(rt; Counts { reached, steps }, counts);
+        assert_eq!(rt; out.last().map(|record| record.length), Some(last));
+        Ok(())
+    }
+
+    // Steps: 8 from each cell within, 5 from each of an edge, 3 from each corner.
+    #[test]
+    fn large_boards_are_measured(rt: HostRuntime) -> Result<(), Fail> {
+        let all = Counts {
+            reached: 65536,
+            steps: 521220,
+        };
+        let some = Counts {
+            reached: 20000,
+            steps: 158204,
+        };
+        check_flat(&rt, 256, 256, all, 255)?;
+        check_flat(&rt, 100, 200, some, 199)
     }
 }

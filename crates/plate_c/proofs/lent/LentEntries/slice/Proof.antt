@@ -1,0 +1,80 @@
+-- `slice` lends the entries that C lent, and the table follows them: a walk of its MIR by hand. Assumes nothing.
+use Rattle.plate_c.proofs.Steps.{ !, Array, Array-apart, Array-whole, Elements, Fml, GName, Goes-spent_ref, List, Logic, MutBor, MutRef, MutSlice, Ptr, RattleType, Stays, Struct, Ura, Val, [], after, agg, alloc_all, and_then, ap, arith, at_ret, await, block_ptr, blocks, cell_at, cells, done, ends_at, ent, enter, env, exec, feq, feq_i, feq_l, first, fjoin, fld, flft, flt_i, flt_l, follows, fpack, frame, free_all, fsep, fsplit, fsplit3, ftrue, full_share, get, group, id⊢, in_a_block, join, keep, later, lends_Elements, length, lies_at, load, look_at, look_in, mem, move, mut_Tells, mut_ref_to, mut_vals, named, no, no_more, nothing, of_opd, opens, part_at, pass_all, peeks, pick, plain, proved, qed, raw, refl, returns, rewrite, row, says_two, sem, sep, sets, sets_last, shape, shows, slice_val, some, split, split3, stay_dropped, stop, sub, subst, suffices, sym, tables, through, type_size, u64, use1, walk_of, whole, whole_in, whole_out, ‵, ℕ, ◌$◌, ◌*◌, ◌<◌, ◌^◌, ◌∙◌, ◌∵◌, ◌∷◌, ◌≡◌, ◌⊛◌}
+use Rattle.queue.specs.contracts.offer.Offer.{the_row as offer_row}
+use Rattle.queue.specs.declared.offer.Offer.{Offer}
+use denote.Memory.{part_of}
+use Rattle.plate_c.specs.Loans.{with_entries}
+use Rattle.plate_c.specs.contracts.lent.LentEntries.{the_row as S, the_type}
+use Rattle.plate_c.specs.contracts.lent.LentEntries.slice as f
+use Rattle.plate_c.specs.declared.lent.LentEntries.{LentEntries}
+use Rattle.plate_c.proofs.lent.LentEntries.TheLaws.{lowers}
+use Rattle.plate_c.proofs.lent.LentEntries.slice.Code as code
+use Rattle.plate_c.proofs.lent.LentEntries.slice.Statement.{statement}
+
+-- the row of an element
+abbrev E : RattleType
+E = offer_row u64
+
+-- nothing is left of the reference at the return: it went into the slice
+abbrev stayed : Stays f.ended.signature.params f.ended.kept
+stayed = (stay_dropped (mut_ref_to (0 ∷ []) tt (plain (λ _. S))) no, tt)
+
+-- all but the elements
+abbrev Rest : LentEntries → List Val → ℕ → ℕ → Fml
+Rest h us rb ro = fsep ((Struct (shape the_type)).own_val (h.at, (h.len, tt)) us) (cell_at full_share S.mir us rb ro)
+
+back : {M : Type 1} {𝓤 : Ura M} (𝓛 : Logic 𝓤) (h : LentEntries) (us : List Val) (rb ro b o : ℕ) → h.at ≡ block_ptr b o → h.len * type_size E < 2 ^ 63 → length h.entries ≡ h.len
+    → (ws : List (Offer ℕ)) → length ws ≡ length h.entries → ent 𝓤 (sep 𝓤 (sem 𝓛 (cells (mem E) ws b o)) (sem 𝓛 (Rest h us rb ro))) (sem 𝓛 ((mem S).own_at (with_entries h ws) rb ro))
+unfolding part_of
+back 𝓛 h us rb ro b o e small lens ws same =
+    qed 𝓛 (‵ (cells (mem E) ws b o) ∷ ‵ (Rest h us rb ro) ∷ []) ∵
+    use1 𝓛 (‵ (row E full_share ws b o)) (whole_out 𝓛 E ws b o) $ feq_i ! ℕ (length ws) h.len (same ∙ lens) $ fjoin ! $
+    use1 𝓛 (‵ (part_at (Array E h.len) full_share ws b o)) (Array-whole 𝓛 E full_share h.len ws b o) $
+    rewrite ! 0 (λ (p : Ptr). ‵ (lies_at (Array E h.len) full_share p ws)) (sym e) refl $
+    flt_i ! (h.len * type_size E) (2 ^ 63) small $ fjoin ! $ move ! (1 ∷ []) $ fsplit ! $
+    -- [the fields; the struct's cell; the elements]
+    move ! (0 ∷ 2 ∷ []) $ fjoin ! $ move ! (1 ∷ 0 ∷ []) $ fjoin ! $
+    fpack ! (List Val) (λ vs. fsep (cell_at full_share S.mir vs rb ro) (S.own_val (with_entries h ws) vs)) us $ done !
+
+pub slice_spec : {M : Type 1} → statement M
+slice_spec 𝓤 𝓛 𝓜 𝓡 wired =
+    let c = f.clauses 𝓛 𝓜.mem 𝓡.returns in let W = walk_of 𝓛 f.ended stayed c in let 𝓣 = tables 𝓤 𝓛.H 𝓜 𝓡 𝓡.env in
+    proved 𝓛 f.ended stayed c 𝓜 𝓡 (Goes-spent_ref 𝓛 1 (0 ∷ []) tt (plain (λ _. S)), tt)
+    f.Key.name code.function (code.unfolded 𝓤 𝓛.H 𝓜 𝓡 wired)
+    (λ κs. (mut_vals, tt)) (λ κs. (mut_Tells (named 0) κs.0 S, tt)) (λ κs qs bounds a _ are.
+    let κ = κs.0 in let q = qs.0 in let γ = a.0.ghost_name in
+    let rb = a.0.ref_ptr.0 in let ro = a.0.ref_ptr.1 in let h = a.0.now in let xs = h.entries in let vs = mut_vals a.0 in
+    let y : W.Ghost = ((κs, qs, bounds, a, (vs, tt)), tt) in
+    qed 𝓛 (((‵ (flft κ q) ⊛ ‵ ftrue) ⊛ ‵ ((MutRef (named 0) κ S).own_val a.0 vs) ⊛ ‵ ftrue) ∷ ‵ ftrue ∷ []) ∵
+    split ! $ split ! $ move ! (2 ∷ []) $ split ! $ keep ! (0 ∷ 2 ∷ []) $
+    enter ! _ _ _ _ _ $ alloc_all ! (λ l. pass_all ! refl ((tt, tt), tt) $
+    fsplit3 ! $ move ! (1 ∷ 2 ∷ 3 ∷ []) $ opens ! tt S rb ro (λ us.
+    move ! (1 ∷ []) $ peeks ! S _ (shows 𝓛 S) h us (λ is. fsplit ! $ move ! (1 ∷ []) $ fsplit ! $ flt_l ! (λ small.
+    in_a_block ! h.at (λ p. lies_at (Array E h.len) full_share p xs) (id⊢ 𝓤 _) (λ b o e.
+    use1 𝓛 (‵ (fsep (feq ℕ (length xs) h.len) (row E full_share xs b o))) (Array-apart 𝓛 E full_share tt h.len xs b o) $ fsplit ! $ feq_l ! (λ lens.
+    let fits_len : h.len < 2 ^ 64 = is.0.1.1.1.0.1 in
+    let word = lowers.val_is h us is ∙ ap (λ (p : Ptr). lowers.lowered (record h { at = p }) ∷ []) e in
+    let Words = λ (ws : List Val). ‵ (cell_at full_share S.mir ws rb ro) in
+    rewrite ! 2 Words word refl $
+    -- [the elements; the fields; the struct's cell; the open borrow, in three entries]
+    first ! $ blocks ! $
+    sets ! (of_opd ! (load ! (through ! refl (fld ! refl (stop !))) (look_in ! 2 (sub ! 0 refl (whole !))))) refl (tt, tt) $
+    sets ! (of_opd ! (load ! (through ! refl (fld ! refl (stop !))) (look_in ! 2 (sub ! 1 refl (whole !))))) refl (tt, record { fits = fits_len }) $
+    sets_last ! (agg ! (and_then ! (get ! refl) (and_then ! (get ! refl) (no_more !)))) refl (tt, (tt, (record { fits = fits_len }, tt))) $
+    exec ! 𝓣.C 𝓣.Λ (env code.Mir.locals l) (after 1 (code.function).body) (at_ret (env code.Mir.locals l) (W.post y)) $
+    sets ! (of_opd ! (get ! refl)) refl (tt, (tt, (record { fits = fits_len }, tt))) $
+    rewrite ! 2 Words (sym word) refl $
+    use1 𝓛 (‵ (cells (mem E) xs b o)) (whole_in 𝓛 E xs b o) $
+    let roomy : length xs < 2 ^ 64 = omega (arith, fits_len, lens) in
+    let fitting : length xs * type_size E < 2 ^ 63 = subst (λ (k : ℕ). k * type_size E < 2 ^ 63) (sym lens) small in
+    let way = back 𝓛 h us rb ro b o e small lens in
+    move ! (1 ∷ 2 ∷ []) $ fjoin ! $ move ! (2 ∷ 3 ∷ 4 ∷ 1 ∷ 0 ∷ []) $ group ! 5 $
+    use1 𝓛 (later (some (λ (δ : GName). raw (Elements 𝓛 S E (with_entries h) (named 0) κ q rb ro b o γ xs (roomy, fitting) (sem 𝓛 (Rest h us rb ro)) way δ))))
+    (lends_Elements 𝓛 S E (with_entries h) (named 0) κ q rb ro b o γ xs (roomy, fitting) (sem 𝓛 (Rest h us rb ro)) way (S.coded.code h) (S.coded.code h)) $ await ! tt $ pick ! (λ δ.
+    returns ! (look_at ! 0 refl) $ free_all ! refl $ keep ! (0 ∷ []) $
+    let r : MutBor (List (Offer ℕ)) = record { ref_ptr = (b, o); ghost_name = δ; now = xs } in
+    let Slice = λ (n : ℕ). ‵ ((MutSlice (named 0) κ E).own_val r (slice_val (b, o) n ∷ [])) in
+    use1 𝓛 (Slice (length xs) ⊛ ‵ (flft κ q) ⊛ ‵ (follows S (Array E 0) γ δ (with_entries h))) (id⊢ 𝓤 _) $ split3 ! $
+    rewrite ! 0 Slice lens refl $
+    suffices ! _ (ends_at 𝓛 f.ended stayed c y (slice_val (b, o) h.len) r (tt, tt) (tt, tt)) $
+    nothing ! $ nothing ! $ fjoin ! $ join ! $ nothing ! $ move ! (2 ∷ 0 ∷ []) $ join ! $ join ! $ frame ! $ says_two ! (refl, lens) $ done !))))))))
