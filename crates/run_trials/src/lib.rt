@@ -14,8 +14,11 @@ mod tests {
     use board::{Cell, MapRecord, Refusal};
     use gauges::{Chessboard, WholeRuler};
     use lengths::Whole;
+    use plate::Draft;
     use queue::Offer;
-    use runs::{Answer, Call, RulerCall, Stopped, Tables, run, run_by_ruler};
+    use runs::{
+        Answer, Call, Plate, Reply, RulerCall, Space, Tables, carry_out_by_ruler, run, run_by_ruler,
+    };
     use std::alloc::{AllocError, Global};
     use std::process::Abort;
     use std::test::Fail;
@@ -41,7 +44,8 @@ mod tests {
     const NO_OFFER: Offer<u64> = Offer { length: 0, cell: 0 };
 
     // A ruler's run on a plate of 1 × 3, over tables that hold something else.
-    fn run_strip(alloc: Global, calls: &[RulerCall]) -> Result<Vec<Answer<Whole>>, Stopped> {
+    fn run_strip(alloc: Global, calls: &[RulerCall]) -> Result<Vec<Answer<Whole>>, Fail> {
+        let space = Space::reserve(alloc, 1, 3, calls)?;
         let tables = Tables {
             cells: &mut [HIGH; 4],
             groups: &mut [2; 64],
@@ -49,7 +53,7 @@ mod tests {
             second: &mut [OLD; 5],
             entries: &mut [NO_OFFER; 27],
         };
-        run_by_ruler(alloc, &BY_CHESSBOARD, 1, 3, tables, calls)
+        Ok(run_by_ruler(&BY_CHESSBOARD, space, tables)?)
     }
 
     // Checks that each answer is printed as wanted, and that there are no others.
@@ -263,8 +267,77 @@ mod tests {
         )
     }
 
+    // A way and a route ask for as much memory as the plate needs, however much room they name, and for none where they are sent back.
+    #[test]
+    fn rooms_are_enormous(rt: HostRuntime) -> Result<(), Fail> {
+        let route = RulerCall::Route { room: usize::MAX };
+        check_strip(
+            &rt,
+            &[
+                way(usize::MAX),
+                route,
+                MEASURE_1,
+                way(usize::MAX),
+                route,
+                MEASURE_2,
+                route,
+                BAR,
+                way(usize::MAX),
+                route,
+            ],
+            &[
+                "Refused(Outdated)",
+                "Refused(Outdated)",
+                "Measured(Counts { reached: 3, steps: 4 })",
+                "Way([2, 1, 0])",
+                "Refused(Outdated)",
+                "Measured(Counts { reached: 3, steps: 4 })",
+                "Route { marks: [1, 1, 1], count: 3 }",
+                "Done",
+                "Refused(Outdated)",
+                "Refused(Outdated)",
+            ],
+        )
+    }
+
+    // Where memory is short no run is made, and the tables hold what they held; else every call is answered. Nothing else here asks for memory,
+    // so that the gate can let each allocation fail in turn.
+    #[test]
+    fn short_memory_leaves_the_tables(rt: HostRuntime) -> Result<(), Fail> {
+        let (mut cells, mut groups) = ([HIGH; 3], [2; 64]);
+        let (mut first, mut second) = ([OLD; 3], [OLD; 3]);
+        let mut entries = [NO_OFFER; 27];
+        let route = RulerCall::Route { room: usize::MAX };
+        let calls = [way(usize::MAX), MEASURE_1, route, MEASURE_2, way(2), route];
+        let mut answered = 0;
+        if let Ok(space) = Space::reserve(rt.alloc(), 1, 3, &calls) {
+            let tables = Tables {
+                cells: &mut cells,
+                groups: &mut groups,
+                first: &mut first,
+                second: &mut second,
+                entries: &mut entries,
+            };
+            answered = run_by_ruler(&BY_CHESSBOARD, space, tables)?.len();
+        }
+        let made = answered == calls.len();
+        assert!(rt; made || answered == 0);
+        assert_eq!(rt; cells, [if made { Cell::BARE } else { HIGH }; 3]);
+        assert_eq!(rt; groups, [if made { 0 } else { 2 }; 64]);
+        let held = if made { MapRecord::unreached(0) } else { OLD };
+        assert_eq!(rt; first, [held; 3]);
+        assert_eq!(rt; second, [held; 3]);
+        assert!(rt; made || entries == [NO_OFFER; 27]);
+        Ok(())
+    }
+
     // A gauge's run over tables for one cell.
-    fn run_cell(alloc: Global, rows: u16, calls: &[Call]) -> Result<Vec<Answer<Whole>>, Stopped> {
+    fn run_cell(
+        alloc: Global,
+        rows: u16,
+        calls: &[Call],
+    ) -> Result<Result<Vec<Answer<Whole>>, Refusal>, AllocError> {
+        let space = Space::reserve(alloc, rows, 1, calls)?;
         let tables = Tables {
             cells: &mut [HIGH; 1],
             groups: &mut [2; 64],
@@ -272,13 +345,13 @@ mod tests {
             second: &mut [OLD; 0],
             entries: &mut [NO_OFFER; 9],
         };
-        run(alloc, &BY_CHESSBOARD, rows, 1, tables, calls)
+        Ok(run(&BY_CHESSBOARD, space, tables))
     }
 
     #[test]
     fn runs_by_a_gauge(rt: HostRuntime) -> Result<(), Fail> {
         let none = run_cell(rt.alloc(), 1, &[])?;
-        assert_eq!(rt; none.len(), 0);
+        assert_eq!(rt; none.map(|answers| answers.len()), Ok(0));
         let answers = run_cell(
             rt.alloc(),
             1,
@@ -286,16 +359,53 @@ mod tests {
         )?;
         check_answers(
             &rt,
-            &answers,
+            &answers?,
             &[
                 "Measured(Counts { reached: 0, steps: 0 })",
                 "Refused(Tables)",
             ],
         )?;
-        let stopped = run_cell(rt.alloc(), 0, &[]).err();
-        assert_eq!(rt; stopped, Some(Stopped::Refused(Refusal::Size)));
-        let stopped = run_cell(rt.alloc(), 2, &[]).err();
-        assert_eq!(rt; stopped, Some(Stopped::Refused(Refusal::Tables)));
+        let calls = [Call::Way {
+            row: 0,
+            column: 0,
+            group: 1,
+            room: usize::MAX,
+        }];
+        assert_eq!(rt; run_cell(rt.alloc(), 0, &calls)?.err(), Some(Refusal::Size));
+        assert_eq!(rt; run_cell(rt.alloc(), 2, &[])?.err(), Some(Refusal::Tables));
+        Ok(())
+    }
+
+    // A client makes the calls one by one, over a list and marks of its own that hold something else.
+    #[test]
+    fn calls_one_by_one(rt: HostRuntime) -> Result<(), Fail> {
+        let (mut cells, mut groups) = ([HIGH; 4], [2; 64]);
+        let (mut first, mut second) = ([OLD; 3], [OLD; 5]);
+        let mut entries = [NO_OFFER; 27];
+        let (mut list, mut marks) = ([77; 5], [7; 4]);
+        let mut plate = Plate::Draft(Draft::open(1, 3, &mut cells, &mut groups)?);
+        let mut last = Reply::Done;
+        let calls = [MEASURE_1, MEASURE_2, way(5), RulerCall::Route { room: 3 }];
+        for call in BUILT.iter().chain(&calls) {
+            let (after, reply) = carry_out_by_ruler(
+                &BY_CHESSBOARD,
+                plate,
+                &mut cells,
+                &mut groups,
+                &mut first,
+                &mut second,
+                &mut entries,
+                &mut list,
+                &mut marks,
+                *call,
+            );
+            plate = after;
+            last = reply;
+        }
+        assert_eq!(rt; last, Reply::Route(3));
+        assert_eq!(rt; list, [2, 1, 0, 77, 77]);
+        assert_eq!(rt; marks, [1, 1, 1, 7]);
+        assert_eq!(rt; cells[3], HIGH);
         Ok(())
     }
 }

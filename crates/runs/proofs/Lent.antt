@@ -13,15 +13,9 @@ use Rattle.measuring.specs.declared.Counts.{Counts}
 use Rattle.plate.specs.Maps.{Measures, MeasuresMap, measure_refusal}
 use Rattle.plate.specs.declared.header.Draft.{Draft}
 use Rattle.queue.specs.declared.offer.Offer.{Offer}
-use Rattle.std.proofs.Math.Path.{transport}
-use Rattle.runs.specs.Plates.{state}
-use Rattle.runs.specs.declared.answer.Answer.{Answer}
-use Rattle.runs.specs.declared.call.Call.{Call}
-use Rattle.runs.specs.declared.call.RulerCall.TheVariants.{Plain}
-use Rattle.runs.specs.declared.plates.Plate.{Plate}
-use Rattle.runs.specs.Said.{Said, said}
+use Rattle.runs.specs.Said.{Said}
 use Rattle.runs.specs.Said.Said.{measured}
-use Rattle.runs.specs.Steps.{MeasureStep, State, Steps, map_of, telling}
+use Rattle.runs.specs.Steps.{MeasureStep, State, map_of, telling}
 
 -- a draft with its tables
 abbrev pub drafted : {R : Type 0} → Draft → List Cell → List ℕ → List (MapRecord R) → List (MapRecord R) → State R
@@ -62,8 +56,3 @@ module _ {L R : Type 0} (kind : Kind L) (rows : Rows L R) (g : Crossing L) (d d'
           told = told;
           rest = sym (λ k. drafted d' cells groups (cond (e k) first first) (cond (e k) second map'));
         }
-
--- a step by values that are equal to these
-pub carried : {L R : Type 0} (kind : Kind L) (rows : Rows L R) (g : Crossing L) (entries : ℕ) (sums : Option (L → L → L)) (s : State R) (a a' : Answer L) (p p' : Plate) (cells cells' : List Cell) (groups groups' : List ℕ) (first first' second second' : List (MapRecord R)) (call call' : Call) → a' ≡ a → p' ≡ p → cells' ≡ cells → groups' ≡ groups → first' ≡ first → second' ≡ second → call' ≡ call → Steps entries s (said a) (state p cells groups first second) kind rows g sums (Plain call) → Steps entries s (said a') (state p' cells' groups' first' second') kind rows g sums (Plain call')
-carried kind rows g entries sums s a a' p p' cells cells' groups groups' first first' second second' call call' ea ep ec eg ef es el step =
-    transport (λ k. Steps entries s (said (sym ea k)) (state (sym ep k) (sym ec k) (sym eg k) (sym ef k) (sym es k)) kind rows g sums (Plain (sym el k))) step

@@ -9,8 +9,12 @@ pub mod Readings
 pub mod Openings
 pub mod Laws
 pub mod Lent
-pub mod Errors
 pub mod Happenings
+pub mod Parts
+pub mod Replied
+pub mod Unlisted
+pub mod Enough
+pub mod Taken
 pub mod Sizes
 pub mod Leading
 pub mod Heights

@@ -1,12 +1,14 @@
 -- A run begins with a plate just opened, and tells the truth from there. Assumes nothing.
-use Rattle.std.proofs.Common.{◌≡◌, ℕ, ◌*◌, ◌≤◌, false, ◌||◌, ltb, List, [], ◌++◌, length, map, drop, replicate, None, Ok, Err, Option, Result, sym, refl, ap, ◌∙◌, subst, arith}
+use Rattle.std.proofs.Common.{◌≡◌, ℕ, ◌*◌, ◌≤◌, false, ◌||◌, ltb, List, [], ◌++◌, length, map, drop, replicate, None, Some, Ok, Err, Option, Result, sym, refl, ap, ◌∙◌, subst, arith}
 use Rattle.std.proofs.lemmas.Bool.Decides.{nat_tests}
 use Rattle.std.proofs.lemmas.List.{length-append, length-drop, length-map, length-replicate}
 use Rattle.std.proofs.lemmas.Result.{MatchResult-weaker}
 use Rattle.std.specs.Result.{MatchResult}
 use Rattle.board.specs.Refusals.{after}
+use Rattle.board.specs.Sizes.{area, bad_size}
 use Rattle.board.specs.declared.cell.Cell.{Cell}
 use Rattle.board.specs.declared.refusal.Refusal.{Refusal}
+use Rattle.board.specs.declared.refusal.Refusal.TheVariants.{Size as BadSize}
 use Rattle.board.specs.declared.record.MapRecord.{MapRecord}
 use Rattle.lengths.specs.Kinds.{Kind, Rows}
 use Rattle.gauges.specs.Meanings.{Crossing}
@@ -14,14 +16,13 @@ use Rattle.plate.specs.Edits.{Opens, bare_cell, open_refusal}
 use Rattle.plate.specs.declared.header.Draft.{Draft}
 use Rattle.queue.specs.declared.offer.Offer.{Offer}
 use Rattle.runs.specs.Plates.{state}
-use Rattle.runs.specs.Runs.{Answered, Held, LeadsTo, Leaves, LeftOver, Ran, Stops, happened, holding, opening_back, rooms_held}
+use Rattle.runs.specs.Runs.{Answered, Held, LeadsTo, Leaves, Ran, happened, holding, opening_back, rooms_held}
 use Rattle.runs.specs.Said.{Said, said}
 use Rattle.runs.specs.Steps.{TellsTruth, rooms_of}
 use Rattle.runs.specs.Truths.{Truthful}
 use Rattle.runs.specs.declared.answer.Answer.{Answer}
 use Rattle.runs.specs.declared.call.RulerCall.{RulerCall}
 use Rattle.runs.specs.declared.plates.Plate.TheVariants as plate
-use Rattle.runs.specs.declared.stopped.Stopped.{Stopped}
 use Rattle.runs.proofs.Moves.{refuse_none}
 
 module _ {L R C : Type 0} (kind : Kind L) (rows : Rows L R) (g : Crossing L) (sums : Option (L → L → L)) (r c : ℕ) (cells cells' : List Cell) (groups groups' : List ℕ) (first second : List (MapRecord R)) (entries : List (Offer R)) (d : Draft) (as_call : C → RulerCall) (calls : List C) (opens : Opens r c cells cells' groups groups' (Ok d)) where
@@ -73,6 +74,13 @@ module _ (r c : ℕ) (cells cells' : List Cell) (groups groups' : List ℕ) (d :
   pub groups_opened : groups' ≡ replicate 64 0 ++ drop 64 groups
   groups_opened = opens.no_groups ∙ ap (λ refused. after refused groups (replicate 64 0 ++ drop 64 groups)) opens.answer.0
 
+  -- the plate is of the size that was asked for
+  pub good_size : bad_size r c ≡ false
+  good_size = (refuse_none (bad_size r c) BadSize _ opens.answer.0).0
+
+  pub opened_area : area d.header.size ≡ r * c
+  opened_area = λ k. opens.answer.1.size.rows k * opens.answer.1.size.columns k
+
   -- it leaves the lengths of its tables
   same_cells : length cells' ≡ length cells
   same_cells = ap length cells_opened ∙ refilled (r * c) bare_cell cells (opened_cells r c cells groups opens.answer.0)
@@ -103,6 +111,6 @@ answered r c kind rows g sums calls answers held left law run =
       truthful = subst (λ lent. Truthful lent size kind g (happened calls answers [])) same_rooms (law r c (length held.entries) start starts (happened calls answers []) run.leaves.leads_to.after run.leaves.leads_to.leads);
     }
 
--- what a run leaves in the tables, however it ends
-pub tables_left : {L R A : Type 0} (r c : ℕ) (kind : Kind L) (rows : Rows L R) (g : Crossing L) (sums : Option (L → L → L)) (calls : List RulerCall) (say : A → List (Said L)) (held left : Held R) (result : Result A Stopped) → MatchResult result (λ a. Ran r c kind rows g sums calls (say a) held left) (λ e. Stops (opening_back (rooms_held held) r c) e × LeftOver r c kind rows g sums calls held left e) → MatchResult result (λ a. Leaves r c kind rows g sums calls (say a) held left) (LeftOver r c kind rows g sums calls held left)
+-- what a run leaves in the tables, whether it answers or not
+pub tables_left : {L R A : Type 0} (r c : ℕ) (kind : Kind L) (rows : Rows L R) (g : Crossing L) (sums : Option (L → L → L)) (calls : List RulerCall) (say : A → List (Said L)) (held left : Held R) (result : Result A Refusal) → MatchResult result (λ a. Ran r c kind rows g sums calls (say a) held left) (λ e. (opening_back (rooms_held held) r c ≡ Some e) × (left ≡ held)) → MatchResult result (λ a. Leaves r c kind rows g sums calls (say a) held left) (λ e. left ≡ held)
 tables_left r c kind rows g sums calls say held left result ends = MatchResult-weaker result ends (λ a ran. ran.leaves) (λ e h. h.1)

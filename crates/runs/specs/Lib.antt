@@ -4,5 +4,7 @@ pub mod Links
 pub mod Truths
 pub mod Steps
 pub mod Plates
+pub mod Replies
+pub mod Places
 pub mod Runs
 pub mod Sums

@@ -1,5 +1,5 @@
 -- What a run answers, a list of calls on a plate just opened, and what it leaves in the tables. Assumes nothing.
-use Rattle.std.specs.Prelude.{◌≡◌, ℕ, ◌*◌, ◌||◌, List, [], ◌∷◌, length, Some, None, Option, nat_lt}
+use Rattle.std.specs.Prelude.{◌≡◌, ℕ, ◌*◌, ◌||◌, List, [], ◌∷◌, length, None, Option, nat_lt}
 use Rattle.board.specs.Refusals.{refuse}
 use Rattle.board.specs.Sizes.{Sized, area, bad_size}
 use Rattle.board.specs.declared.cell.Cell.{Cell}
@@ -15,8 +15,6 @@ use Rattle.runs.specs.Histories.{Event, measured_ever}
 use Rattle.runs.specs.Steps.{Leads, QueueLeft, Starts, State}
 use Rattle.runs.specs.Truths.{Rooms, Truthful}
 use Rattle.runs.specs.declared.call.RulerCall.{RulerCall}
-use Rattle.runs.specs.declared.stopped.Stopped.{Stopped}
-use Rattle.runs.specs.declared.stopped.Stopped.TheVariants.{Refused, NoMemory}
 
 -- the calls with their answers, the last one first, after those before
 abbrev pub happened : {L : Type 0} → List RulerCall → List (Said L) → List (Event L) → List (Event L)
@@ -76,13 +74,3 @@ pub record Answered {L : Type 0} (rooms : Rooms) (r c : ℕ) (kind : Kind L) (ga
   pub sized : Sized size r c
   pub all : length answers ≡ length calls
   pub truthful : Truthful rooms size kind gauge (happened calls answers [])
-
--- a run is stopped by the refusal to open the plate, or once it is open by want of memory
-abbrev pub Stops : Option Refusal → Stopped → Type 0
-Stops back (Refused e) = back ≡ Some e
-Stops back NoMemory = back ≡ None
-
--- a refusal to open the plate leaves the tables, and want of memory leaves what the first calls made of them, however many these were
-abbrev pub LeftOver : {L R : Type 0} → ℕ → ℕ → Kind L → Rows L R → Crossing L → Option (L → L → L) → List RulerCall → Held R → Held R → Stopped → Type 0
-LeftOver r c kind rows g sums calls held left (Refused e) = left ≡ held
-LeftOver {L} r c kind rows g sums calls held left NoMemory = (answers : List (Said L)) × Leaves r c kind rows g sums calls answers held left

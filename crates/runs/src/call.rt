@@ -1,4 +1,7 @@
 // Calls as values.
+ghost use Rattle.std.specs.Prelude.{◌≡◌};
+ghost use Rattle.runs.specs.declared.call.RulerCall.{RulerCall};
+ghost use Rattle.runs.specs.declared.call.RulerCall.TheVariants.{Plain};
 
 // A call on an open plate. The figures are those that the call takes, so that bad ones may come; `room` is how many cells the list
 // of a way holds.
@@ -47,4 +50,28 @@ pub enum RulerCall {
     Plain(Call),
     Gap,
     Route { room: usize },
+}
+
+/// A call that a run can be asked for: one of a gauge's run, or one of a ruler's.
+pub trait RunCall: Copy {
+    ghost as_call: { Self → RulerCall };
+
+    fn as_ruler_call(&self) -> RulerCall
+        ensures { result ≡ Self.as_call self.now };
+}
+
+impl RunCall for Call {
+    ghost as_call = { Plain };
+
+    fn as_ruler_call(&self) -> RulerCall {
+        RulerCall::Plain(*self)
+    }
+}
+
+impl RunCall for RulerCall {
+    ghost as_call = { λ call. call };
+
+    fn as_ruler_call(&self) -> RulerCall {
+        *self
+    }
 }

@@ -8,17 +8,21 @@ pub mod answer;
 pub mod call;
 mod callers;
 pub mod plates;
+pub mod reply;
 mod ruler_steps;
 pub mod running;
+pub mod space;
 mod steps;
-pub mod stopped;
 
 pub use answer::Answer;
-pub use call::{Call, RulerCall};
+pub use call::{Call, RulerCall, RunCall};
 use lengths::Length;
-pub use plates::Tables;
+pub use plates::{Plate, Tables};
+pub use reply::Reply;
+pub use ruler_steps::carry_out_by_ruler;
 pub use running::{run, run_by_ruler};
-pub use stopped::Stopped;
+pub use space::Space;
+pub use steps::carry_out;
 
 // Over every lawful gauge, whoever makes the calls and whatever the maps held when the plate was opened.
 pub fn calls_tell_the_truth<K: Length>()

@@ -7,8 +7,9 @@ use board::{Cell, MapRecord};
 use plate::{Draft, Header, Readings, Sealed};
 use queue::Offer;
 
+/// An open plate in either state. A draft allows every call but break, and a sealed plate only the readings and break.
 #[derive(Drop)]
-pub(crate) enum Plate {
+pub enum Plate {
     Draft(Draft),
     Sealed(Sealed),
 }

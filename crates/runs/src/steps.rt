@@ -1,33 +1,31 @@
 // One call on a plate and its tables, by the plate's own call.
-ghost use Rattle.std.specs.Prelude.{◌≡◌, ℕ, ◌*◌, List, Option, None, Ok, IfOk, OnErr, cond, ◌==◌, length};
+ghost use Rattle.std.specs.Prelude.{◌≡◌, ℕ, ◌*◌, List, [], Option, None, cond, ◌==◌, length, min};
 ghost use Rattle.board.specs.Sizes.{area};
 ghost use Rattle.board.specs.declared.record.MapRecord.{MapRecord as TheRecord};
 ghost use Rattle.runs.specs.Plates.{OnCells, OnGroups, OnMaps, PlainStep, header_of, state};
 ghost use Rattle.runs.specs.Histories.{measured_now};
-ghost use Rattle.runs.specs.Said.{said};
+ghost use Rattle.runs.specs.Replies.{cells_told, in_front, told, way_within};
 ghost use Rattle.runs.specs.Said.Said.{done, measured, distance, nearest};
 ghost use Rattle.runs.specs.Steps.{QueueLeft, Steps, telling};
 ghost use Rattle.runs.specs.declared.call.Call.TheVariants as call;
 ghost use Rattle.runs.specs.declared.call.RulerCall.TheVariants.{Plain};
 
 use crate::callers::Caller;
-use crate::plates::Plate;
-use crate::{Answer, Call};
+use crate::{Call, Plate, Reply};
 use board::{Cell, MapRecord, Refusal};
 use gauges::Gauge;
 use lengths::Length;
 use measuring::{Counts, RowOf};
 use plate::Readings;
 use queue::Offer;
-use std::alloc::{AllocError, Global};
 
 // What a call answered that has nothing else to say.
-fn answer_edit<K>(outcome: Result<(), Refusal>) -> Answer<K>
-    ensures { said result ≡ telling (λ x. done) outcome }
+fn reply_edit<K>(outcome: Result<(), Refusal>) -> Reply<K>
+    ensures { (list marks : List ℕ) → told result list marks ≡ telling (λ x. done) outcome }
 {
     match outcome {
-        Ok(()) => Answer::Done,
-        Err(refusal) => Answer::Refused(refusal),
+        Ok(()) => Reply::Done,
+        Err(refusal) => Reply::Refused(refusal),
     }
 }
 
@@ -49,39 +47,42 @@ fn set<K: Length>(
     column: u16,
     height: u16,
     pad: u16,
-) -> Answer<K>
-    ensures { OnCells K.Length.kind K.Length.rows (call.Set row column height pad) (said result) plate.old plate.new cells.old cells.new }
+) -> Reply<K>
+    ensures { (list marks : List ℕ) → OnCells K.Length.kind K.Length.rows (call.Set row column height pad)
+        (told result list marks) plate.old plate.new cells.old cells.new }
 {
     match plate {
-        Plate::Draft(draft) => answer_edit(draft.set(cells, row, column, height, pad)),
-        Plate::Sealed(_) => Answer::NotAllowed,
+        Plate::Draft(draft) => reply_edit(draft.set(cells, row, column, height, pad)),
+        Plate::Sealed(_) => Reply::NotAllowed,
     }
 }
 
-fn bar<K: Length>(plate: &mut Plate, cells: &mut [Cell], row: u16, column: u16) -> Answer<K>
-    ensures { OnCells K.Length.kind K.Length.rows (call.Bar row column) (said result) plate.old plate.new cells.old cells.new }
+fn bar<K: Length>(plate: &mut Plate, cells: &mut [Cell], row: u16, column: u16) -> Reply<K>
+    ensures { (list marks : List ℕ) → OnCells K.Length.kind K.Length.rows (call.Bar row column)
+        (told result list marks) plate.old plate.new cells.old cells.new }
 {
     match plate {
-        Plate::Draft(draft) => answer_edit(draft.bar(cells, row, column)),
-        Plate::Sealed(_) => Answer::NotAllowed,
+        Plate::Draft(draft) => reply_edit(draft.bar(cells, row, column)),
+        Plate::Sealed(_) => Reply::NotAllowed,
     }
 }
 
-fn enrol<K: Length>(plate: &mut Plate, groups: &mut [u8], pad: u16, group: u16) -> Answer<K>
-    ensures { OnGroups K.Length.kind K.Length.rows (call.Enrol pad group) (said result) plate.old plate.new groups.old groups.new }
+fn enrol<K: Length>(plate: &mut Plate, groups: &mut [u8], pad: u16, group: u16) -> Reply<K>
+    ensures { (list marks : List ℕ) → OnGroups K.Length.kind K.Length.rows (call.Enrol pad group)
+        (told result list marks) plate.old plate.new groups.old groups.new }
 {
     match plate {
-        Plate::Draft(draft) => answer_edit(draft.enrol(groups, pad, group)),
-        Plate::Sealed(_) => Answer::NotAllowed,
+        Plate::Draft(draft) => reply_edit(draft.enrol(groups, pad, group)),
+        Plate::Sealed(_) => Reply::NotAllowed,
     }
 }
 
-fn answer_counts<K>(outcome: Result<Counts, Refusal>) -> Answer<K>
-    ensures { said result ≡ telling measured outcome }
+fn reply_counts<K>(outcome: Result<Counts, Refusal>) -> Reply<K>
+    ensures { (list marks : List ℕ) → told result list marks ≡ telling measured outcome }
 {
     match outcome {
-        Ok(counts) => Answer::Measured(counts),
-        Err(refusal) => Answer::Refused(refusal),
+        Ok(counts) => Reply::Measured(counts),
+        Err(refusal) => Reply::Refused(refusal),
     }
 }
 
@@ -94,17 +95,23 @@ fn measure<G: Gauge>(
     second: &mut [MapRecord<RowOf<G>>],
     entries: &mut [Offer<RowOf<G>>],
     group: u16,
-) -> Answer<G::Length>
-    ensures steps { (sums : Option (G.Length → G.Length → G.Length)) → Steps (length entries.old) (state plate.old cells.now groups.now first.old second.old) (said result) (state plate.new cells.now groups.now first.new second.new) G.Length.kind G.Length.rows (G.Gauge.crossing gauge.now) sums (Plain (call.Measure group)) }
-    ensures queue { QueueLeft (9 * area (header_of plate.old).size) (measured_now (Plain (call.Measure group)) (said result)) entries.old entries.new }
+) -> Reply<G::Length>
+    ensures steps { (list marks : List ℕ) (sums : Option (G.Length → G.Length → G.Length)) → Steps
+        (length entries.old) (state plate.old cells.now groups.now first.old second.old)
+        (told result list marks) (state plate.new cells.now groups.now first.new second.new)
+        G.Length.kind G.Length.rows (G.Gauge.crossing gauge.now) sums
+        (Plain (call.Measure group)) }
+    ensures queue { (list marks : List ℕ) → QueueLeft (9 * area (header_of plate.old).size)
+        (measured_now (Plain (call.Measure group)) (told result list marks)) entries.old
+        entries.new }
 {
     let Plate::Draft(draft) = plate else {
-        return Answer::NotAllowed;
+        return Reply::NotAllowed;
     };
     if group == 1 {
-        return answer_counts(draft.measure(gauge, cells, groups, group, first, entries));
+        return reply_counts(draft.measure(gauge, cells, groups, group, first, entries));
     }
-    answer_counts(draft.measure(gauge, cells, groups, group, second, entries))
+    reply_counts(draft.measure(gauge, cells, groups, group, second, entries))
 }
 
 fn distance<K: Length>(
@@ -114,12 +121,13 @@ fn distance<K: Length>(
     row: u16,
     column: u16,
     group: u16,
-) -> Answer<K>
-    ensures { OnMaps K.Length.kind K.Length.rows (call.Distance row column group) (said result) plate.now plate.now first.now second.now }
+) -> Reply<K>
+    ensures { (list marks : List ℕ) → OnMaps K.Length.kind K.Length.rows (call.Distance row column group)
+        (told result list marks) plate.now plate.now first.now second.now }
 {
     match plate.distance::<K>(map_of(first, second, group), row, column, group) {
-        Ok(found) => Answer::Distance(found),
-        Err(refusal) => Answer::Refused(refusal),
+        Ok(found) => Reply::Distance(found),
+        Err(refusal) => Reply::Refused(refusal),
     }
 }
 
@@ -130,62 +138,66 @@ fn nearest<K: Length>(
     row: u16,
     column: u16,
     group: u16,
-) -> Answer<K>
-    ensures { OnMaps K.Length.kind K.Length.rows (call.Nearest row column group) (said result) plate.now plate.now first.now second.now }
+) -> Reply<K>
+    ensures { (list marks : List ℕ) → OnMaps K.Length.kind K.Length.rows (call.Nearest row column group)
+        (told result list marks) plate.now plate.now first.now second.now }
 {
     match plate.nearest::<K>(map_of(first, second, group), row, column, group) {
-        Ok(found) => Answer::Nearest(found),
-        Err(refusal) => Answer::Refused(refusal),
+        Ok(found) => Reply::Nearest(found),
+        Err(refusal) => Reply::Refused(refusal),
     }
 }
 
-// The list of a way is made for it, with room for so many cells.
+// The cells go into the front of the list, as far as its length and the call's room allow.
 fn way<K: Length>(
-    alloc: Global,
     plate: &Plate,
     first: &[MapRecord<K::Row>],
     second: &[MapRecord<K::Row>],
+    list: &mut [u16],
     row: u16,
     column: u16,
     group: u16,
     room: usize,
-) -> Result<Answer<K>, AllocError>
-    ensures { IfOk result (λ answer. OnMaps K.Length.kind K.Length.rows (call.Way row column group room) (said answer) plate.now plate.now first.now second.now) }
+) -> Reply<K>
+    ensures steps { (marks : List ℕ) → OnMaps K.Length.kind K.Length.rows
+        (call.Way row column group (min room (length list.old))) (told result list.new marks)
+        plate.now plate.now first.now second.now }
+    ensures list { list.new ≡ in_front (cells_told result list.new) list.old }
 {
-    let mut list = vec![in alloc; 0u16; room]?;
-    match plate.way::<K>(map_of(first, second, group), row, column, group, &mut list) {
-        Ok(count) => {
-            list.truncate(count);
-            Ok(Answer::Way(list))
-        }
-        Err(refusal) => Ok(Answer::Refused(refusal)),
+    let lent = room.min(list.len());
+    let map = map_of(first, second, group);
+    match plate.way::<K>(map, row, column, group, &mut list[..lent]) {
+        Ok(count) => Reply::Way(count),
+        Err(refusal) => Reply::Refused(refusal),
     }
 }
 
-fn seal<K: Length>(plate: Plate) -> (Plate, Answer<K>)
-    ensures { (first second : List (TheRecord K.Row)) → OnMaps K.Length.kind K.Length.rows call.Seal (said result.1) plate result.0 first second }
+fn seal<K: Length>(plate: Plate) -> (Plate, Reply<K>)
+    ensures { (list marks : List ℕ) (first second : List (TheRecord K.Row)) → OnMaps K.Length.kind
+        K.Length.rows call.Seal (told result.1 list marks) plate result.0 first second }
 {
     match plate {
         Plate::Draft(draft) => match draft.seal() {
-            Ok(sealed) => (Plate::Sealed(sealed), Answer::Done),
-            Err(back) => (Plate::Draft(back.draft), Answer::Refused(back.refusal)),
+            Ok(sealed) => (Plate::Sealed(sealed), Reply::Done),
+            Err(back) => (Plate::Draft(back.draft), Reply::Refused(back.refusal)),
         },
-        Plate::Sealed(sealed) => (Plate::Sealed(sealed), Answer::NotAllowed),
+        Plate::Sealed(sealed) => (Plate::Sealed(sealed), Reply::NotAllowed),
     }
 }
 
-fn break_seal<K: Length>(plate: Plate) -> (Plate, Answer<K>)
-    ensures { (first second : List (TheRecord K.Row)) → OnMaps K.Length.kind K.Length.rows call.Break (said result.1) plate result.0 first second }
+fn break_seal<K: Length>(plate: Plate) -> (Plate, Reply<K>)
+    ensures { (list marks : List ℕ) (first second : List (TheRecord K.Row)) → OnMaps K.Length.kind
+        K.Length.rows call.Break (told result.1 list marks) plate result.0 first second }
 {
     match plate {
-        Plate::Sealed(sealed) => (Plate::Draft(sealed.break_seal()), Answer::Done),
-        Plate::Draft(draft) => (Plate::Draft(draft), Answer::NotAllowed),
+        Plate::Sealed(sealed) => (Plate::Draft(sealed.break_seal()), Reply::Done),
+        Plate::Draft(draft) => (Plate::Draft(draft), Reply::NotAllowed),
     }
 }
 
-// One call, whatever it is. Only a way's list wants memory.
-pub(crate) fn carry_out<G: Gauge>(
-    alloc: Global,
+/// One call on a plate in either state, over lent tables and the list that is lent to a way: its step, which says what it answers and leaves.
+/// A way has the call's room or the length of the list, whichever is less. Nothing is allocated, and every call is answered.
+pub fn carry_out<G: Gauge>(
     gauge: &G,
     plate: Plate,
     cells: &mut [Cell],
@@ -193,14 +205,19 @@ pub(crate) fn carry_out<G: Gauge>(
     first: &mut [MapRecord<RowOf<G>>],
     second: &mut [MapRecord<RowOf<G>>],
     entries: &mut [Offer<RowOf<G>>],
+    list: &mut [u16],
     call: Call,
-) -> Result<(Plate, Answer<G::Length>), AllocError>
-    ensures steps { IfOk result (λ done. (sums : Option (G.Length → G.Length → G.Length)) → Steps (length entries.old) (state plate cells.old groups.old first.old second.old) (said done.1) (state done.0 cells.new groups.new first.new second.new) G.Length.kind G.Length.rows (G.Gauge.crossing gauge.now) sums (Plain call)) }
-    ensures queue { IfOk result (λ done. QueueLeft (9 * area (header_of plate).size) (measured_now (Plain call) (said done.1)) entries.old entries.new) }
-    ensures stopped { OnErr result ((cells.new ≡ cells.old) × (groups.new ≡ groups.old) × (first.new ≡ first.old) × (second.new ≡ second.old) × (entries.new ≡ entries.old)) }
+) -> (Plate, Reply<G::Length>)
+    ensures steps { Steps (length entries.old) (state plate cells.old groups.old first.old second.old)
+        (told result.1 list.new []) (state result.0 cells.new groups.new first.new second.new)
+        G.Length.kind G.Length.rows (G.Gauge.crossing gauge.now) None
+        (Plain (way_within (length list.old) call)) }
+    ensures queue { QueueLeft (9 * area (header_of plate).size)
+        (measured_now (Plain call) (told result.1 list.new [])) entries.old entries.new }
+    ensures list { list.new ≡ in_front (cells_told result.1 list.new) list.old }
 {
     let mut plate = plate;
-    let answer = match call {
+    let reply = match call {
         Call::Set {
             row,
             column,
@@ -223,11 +240,11 @@ pub(crate) fn carry_out<G: Gauge>(
             column,
             group,
             room,
-        } => way(alloc, &plate, first, second, row, column, group, room)?,
-        Call::Seal => return Ok(seal(plate)),
-        Call::Break => return Ok(break_seal(plate)),
+        } => way(&plate, first, second, list, row, column, group, room),
+        Call::Seal => return seal(plate),
+        Call::Break => return break_seal(plate),
     };
-    Ok((plate, answer))
+    (plate, reply)
 }
 
 // The calls of a run over a gauge.
@@ -245,21 +262,20 @@ impl<G: Gauge> Caller for ByGauge<'_, G> {
 
     ghost sums = { λ _. None };
 
-    ghost as_call = { Plain };
-
     fn carry_out(
         &self,
-        alloc: Global,
         plate: Plate,
         cells: &mut [Cell],
         groups: &mut [u8],
         first: &mut [MapRecord<RowOf<G>>],
         second: &mut [MapRecord<RowOf<G>>],
         entries: &mut [Offer<RowOf<G>>],
+        list: &mut [u16],
+        _marks: &mut [u8],
         call: Call,
-    ) -> Result<(Plate, Answer<G::Length>), AllocError> {
+    ) -> (Plate, Reply<G::Length>) {
         carry_out(
-            alloc, self.gauge, plate, cells, groups, first, second, entries, call,
+            self.gauge, plate, cells, groups, first, second, entries, list, call,
         )
     }
 }

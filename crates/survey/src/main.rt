@@ -12,7 +12,7 @@ use gauges::{Chessboard, WholeRuler};
 use lengths::Whole;
 use output::{print_answer, print_call};
 use queue::Offer;
-use runs::{Answer, RulerCall, Stopped, Tables, run_by_ruler};
+use runs::{Answer, RulerCall, Space, Tables, run_by_ruler};
 use script::Script;
 use sheets::lines::LONGEST;
 use std::io;
@@ -20,14 +20,6 @@ use std::io::Read;
 
 // A plate's cells are at most 256 times 256.
 const CELLS: usize = 65536;
-
-// What ends the program where a run has no answers.
-fn stop_of(stopped: Stopped) -> Stop {
-    match stopped {
-        Stopped::Refused(refusal) => Stop::Refused(refusal),
-        Stopped::NoMemory => Stop::System(io::Error::from(io::ErrorKind::OutOfMemory)),
-    }
-}
 
 fn print_run(rt: &impl Print, calls: &[RulerCall], answers: &[Answer<Whole>]) -> io::Result<()> {
     for (call, answer) in calls.iter().zip(answers) {
@@ -56,10 +48,8 @@ fn run_script(rt: &(impl Print + AllocGlobal), script: &Script) -> Result<(), St
         second: &mut second,
         entries: &mut entries,
     };
-    let ruler = WholeRuler(Chessboard);
-    let answers = run_by_ruler(heap, &ruler, rows, columns, tables, &script.calls).map_err(
-        stop_of,
-    )?;
+    let space = Space::reserve(heap, rows, columns, &script.calls)?;
+    let answers = run_by_ruler(&WholeRuler(Chessboard), space, tables)?;
     println!(rt; "plate\t{rows}\t{columns}\topened")?;
     print_run(rt, &script.calls, &answers)?;
     Ok(())

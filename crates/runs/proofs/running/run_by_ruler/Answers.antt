@@ -1,10 +1,10 @@
 -- Over a ruler, by its laws. Assumes nothing.
 use Rattle.std.proofs.Common.{Some, map, subst, sym}
 use Rattle.std.proofs.lemmas.List.{map-id}
-use Rattle.runs.specs.Said.{said}
-use Rattle.runs.specs.Runs.{Answered, holding, rooms}
-use Rattle.runs.proofs.Laws.{ruler_runs}
 use Rattle.std.proofs.lemmas.Result.{MatchResult-weaker}
+use Rattle.runs.specs.Runs.{Answered, holding, rooms}
+use Rattle.runs.specs.Said.{said}
+use Rattle.runs.proofs.Laws.{ruler_runs}
 use Rattle.runs.proofs.Openings.{answered, tables_left}
 use Rattle.runs.proofs.running.run_by_ruler.Goals as goal
 
@@ -14,18 +14,20 @@ returns-clause-answers g c =
     let rows = g.R.Length.Length.rows in
     let crossing = g.R.Gauge.crossing c.args.ruler.now in
     let ruling = g.R.Ruler.ruling c.args.ruler.now in
+    let law = ruler_runs kind rows g.met.R.Length.Length.lawful ruling (g.met.R.Ruler.ruled c.args.ruler.now) crossing (g.met.R.Ruler.adds c.args.ruler.now) in
+    let space = c.args.space in
     let tables = c.args.tables in
     let held = holding tables.cells.now tables.groups.now tables.first.now tables.second.now tables.entries.now in
-    MatchResult-weaker c.open_and_carry_out.result c.open_and_carry_out.ensures
-    (λ answers ran. subst (λ calls. Answered (rooms tables.cells.now tables.groups.now tables.first.now tables.second.now tables.entries.now) c.args.rows c.args.columns kind crossing calls (map said answers.items)) (map-id c.args.calls.now)
-    (answered c.args.rows c.args.columns kind rows crossing (Some ruling.sum) (map (λ call. call) c.args.calls.now) (map said answers.items) held _ (ruler_runs kind rows g.met.R.Length.Length.lawful ruling (g.met.R.Ruler.ruled c.args.ruler.now) crossing (g.met.R.Ruler.adds c.args.ruler.now)) ran))
+    MatchResult-weaker c.run_in_space.result c.run_in_space.ensures
+    (λ answers ran. subst (λ calls. Answered (rooms tables.cells.now tables.groups.now tables.first.now tables.second.now tables.entries.now) space.rows space.columns kind crossing calls (map said answers.items)) (map-id space.calls.now)
+    (answered space.rows space.columns kind rows crossing (Some ruling.sum) (map (λ call. call) space.calls.now) (map said answers.items) held _ law ran))
     (λ e h. h.0)
 
 pub returns-clause-tables : goal.returns-clause-tables
 returns-clause-tables g c =
+    let space = c.args.space in
     let tables = c.args.tables in
-    let sums = Some (g.R.Ruler.ruling c.args.ruler.now).sum in
+    let ruling = g.R.Ruler.ruling c.args.ruler.now in
     let held = holding tables.cells.now tables.groups.now tables.first.now tables.second.now tables.entries.now in
-    rw (sym (map-id c.args.calls.now))
-    (tables_left c.args.rows c.args.columns g.R.Length.Length.kind g.R.Length.Length.rows (g.R.Gauge.crossing c.args.ruler.now) sums (map (λ call. call) c.args.calls.now) (λ answers. map said answers.items)
-    held _ c.open_and_carry_out.result c.open_and_carry_out.ensures)
+    rw (sym (map-id space.calls.now))
+    (tables_left space.rows space.columns g.R.Length.Length.kind g.R.Length.Length.rows (g.R.Gauge.crossing c.args.ruler.now) (Some ruling.sum) (map (λ call. call) space.calls.now) (λ answers. map said answers.items) held _ c.run_in_space.result c.run_in_space.ensures)
