@@ -1,5 +1,6 @@
--- How many bytes C lends for each cell, map record and entry. Assumes nothing.
+-- How many bytes C lends for each cell, map record and entry, and how these are aligned. Assumes nothing.
 use Rattle.std.proofs.Common.{◌≡◌, refl}
+use Rattle.std.specs.Align.{type_align}
 use Rattle.std.specs.Borrow.{u64}
 use Rattle.std.specs.Mem.{type_size}
 use Rattle.board.specs.contracts.cell.Cell.{the_row as cell_row}
@@ -14,3 +15,12 @@ record_takes = refl
 
 pub entry_takes : type_size (offer_row u64) ≡ 16
 entry_takes = refl
+
+pub cell_lies : type_align cell_row ≡ 2
+cell_lies = refl
+
+pub record_lies : type_align (record_row u64) ≡ 8
+record_lies = refl
+
+pub entry_lies : type_align (offer_row u64) ≡ 8
+entry_lies = refl

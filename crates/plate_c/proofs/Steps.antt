@@ -25,7 +25,7 @@ pub use denote.Slice.{MutSlice, Room, mut_slice_Tells, mut_slice_vals, slice_val
 pub use denote.Steps.{nothing, opens, peeks}
 pub use denote.Struct.Owning.{shape}
 pub use denote.Struct.Struct.{Struct, within}
-pub use denote.Triple.Walked.{Goes-spent_ref, Goes-spent_slice, Stays, ends_at, says, stay_dropped, walk_of}
+pub use denote.Triple.Walked.{Goes-spent_ref, Goes-spent_slice, Stays, ends_at, stay_dropped, walk_of}
 pub use mir.Syntax.{named, w64}
 pub use mir.Val.{Val, vint, vptr}
 pub use seplogic.Ra.Ura.{Ura}

@@ -68,6 +68,7 @@ impl LentCells {
     // Of cells that no one else will see again: what a caller in Rattle lends.
     pub fn of(cells: &'static mut [Cell]) -> LentCells
         ensures len { result.len ≡ length cells.old }
+        ensures values { result.cells ≡ cells.old }
     {
         LentCells {
             at: cells.as_mut_ptr(),
@@ -90,6 +91,7 @@ impl LentMap {
     // Of records that no one else will see again: what a caller in Rattle lends.
     pub fn of(map: &'static mut [MapRecord<u64>]) -> LentMap
         ensures len { result.len ≡ length map.old }
+        ensures values { result.map ≡ map.old }
     {
         LentMap {
             at: map.as_mut_ptr(),
@@ -112,6 +114,7 @@ impl LentEntries {
     // Of entries that no one else will see again: what a caller in Rattle lends.
     pub fn of(entries: &'static mut [Offer<u64>]) -> LentEntries
         ensures len { result.len ≡ length entries.old }
+        ensures values { result.entries ≡ entries.old }
     {
         LentEntries {
             at: entries.as_mut_ptr(),

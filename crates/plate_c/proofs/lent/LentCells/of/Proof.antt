@@ -1,5 +1,5 @@
 -- `of` makes a lent table of cells that are its own for good: a walk of its MIR by hand. Assumes nothing.
-use Rattle.plate_c.proofs.Steps.{ !, Array, Array-whole, Goes-spent_slice, MutSlice, RattleType, Room, Stays, Val, Valss, [], addr, agg, alloc_all, and_then, block_ptr, done, ends_at, enter, feq_i, fjoin, fld, flft, flt_i, fpack, free_all, from, fsplit3, ftrue, full_share, get, get_in, hop, join, keep, length, look_at, look_in_at, move, mut_slice_Tells, mut_slice_of, no, mut_slice_vals, name_of, no_more, nothing, of_opd, opens_slice, part_at, pass_all, plain, proved, qed, refl, returns, says, sets, shape, split, drop, List, stay_dropped, stop, sub, suffices, tables, type_size, use0, use1, vint, vptr, walk_of, whole, within, w64, ‵, ℕ, ◌$◌, ◌*◌, ◌^◌, ◌∵◌, ◌∷◌, ◌⊛◌}
+use Rattle.plate_c.proofs.Steps.{ !, Array, Array-whole, Goes-spent_slice, MutSlice, RattleType, Room, Stays, Val, Valss, [], addr, agg, alloc_all, and_then, block_ptr, done, ends_at, enter, feq_i, fjoin, fld, flft, flt_i, fpack, free_all, from, fsplit3, ftrue, full_share, get, get_in, hop, join, keep, length, look_at, look_in_at, move, mut_slice_Tells, mut_slice_of, no, mut_slice_vals, name_of, no_more, nothing, of_opd, opens_slice, part_at, pass_all, plain, proved, qed, refl, returns, says_two, sets, shape, split, drop, List, stay_dropped, stop, sub, suffices, tables, type_size, use0, use1, vint, vptr, walk_of, whole, within, w64, ‵, ℕ, ◌$◌, ◌*◌, ◌^◌, ◌∵◌, ◌∷◌, ◌⊛◌}
 use Rattle.board.specs.contracts.cell.Cell.{the_row as cell_row}
 use Rattle.plate_c.specs.contracts.lent.LentCells.{the_type}
 use Rattle.plate_c.specs.contracts.lent.LentCells.of as f
@@ -42,5 +42,5 @@ of_spec 𝓤 𝓛 𝓜 𝓡 wired =
     nothing ! $ flt_i ! n (2 ^ 64) room.0 $ feq_i ! (List Val) (vint w64 n ∷ []) (vint w64 n ∷ []) refl $ fjoin ! $ fjoin ! $
     feq_i ! (List Val) (vptr b o ∷ []) (vptr b o ∷ []) refl $ fjoin ! $ feq_i ! (List Val) (v ∷ []) (v ∷ []) refl $ fjoin ! $
     fpack ! (Valss (shape the_type).fields) (within (shape the_type) (block_ptr b o, (n, tt)) (v ∷ [])) (vptr b o ∷ [], (vint w64 n ∷ [], tt)) $ fjoin ! $
-    suffices ! _ (ends_at 𝓛 f.ended stayed c y v t (tt, tt) (tt, tt)) $ says ! refl $
+    suffices ! _ (ends_at 𝓛 f.ended stayed c y v t (tt, tt) (tt, tt)) $ says_two ! (refl, refl) $
     nothing ! $ nothing ! $ join ! $ nothing ! $ done !))

@@ -1,12 +1,12 @@
 -- `slice` lends the entries that C lent, and the table follows them: a walk of its MIR by hand. Assumes nothing.
-use Rattle.plate_c.proofs.Steps.{ !, Array, Array-apart, Array-whole, Elements, Fml, GName, Goes-spent_ref, List, Logic, MutBor, MutRef, MutSlice, Ptr, RattleType, Stays, Struct, Ura, Val, [], after, agg, alloc_all, and_then, ap, arith, at_ret, await, block_ptr, blocks, cell_at, cells, done, ends_at, ent, enter, env, exec, feq, feq_i, feq_l, first, fjoin, fld, flft, flt_i, flt_l, follows, fpack, frame, free_all, fsep, fsplit, fsplit3, ftrue, full_share, get, group, id⊢, in_a_block, join, keep, later, lends_Elements, length, lies_at, load, look_at, look_in, mem, move, mut_Tells, mut_ref_to, mut_vals, named, no, no_more, nothing, of_opd, opens, part_at, pass_all, peeks, pick, plain, proved, qed, raw, refl, returns, rewrite, row, says_two, sem, sep, sets, sets_last, shape, shows, slice_val, some, split, split3, stay_dropped, stop, sub, subst, suffices, sym, tables, through, type_size, u64, use1, walk_of, whole, whole_in, whole_out, ‵, ℕ, ◌$◌, ◌*◌, ◌<◌, ◌^◌, ◌∙◌, ◌∵◌, ◌∷◌, ◌≡◌, ◌⊛◌}
+use Rattle.plate_c.proofs.Steps.{ !, Array, Array-apart, Elements, Fml, GName, Goes-spent_ref, List, MutBor, MutRef, MutSlice, Ptr, RattleType, Stays, Struct, Val, [], after, agg, alloc_all, and_then, ap, arith, at_ret, await, blocks, cell_at, cells, done, ends_at, enter, env, exec, feq, feq_l, first, fjoin, fld, flft, flt_l, follows, frame, free_all, fsep, fsplit, fsplit3, ftrue, full_share, get, group, id⊢, in_a_block, join, keep, later, lends_Elements, length, lies_at, load, look_at, look_in, mem, move, mut_Tells, mut_ref_to, mut_vals, named, no, no_more, nothing, of_opd, opens, pass_all, peeks, pick, plain, proved, qed, raw, refl, returns, rewrite, row, says_two, sem, sets, sets_last, shape, shows, slice_val, some, split, split3, stay_dropped, stop, sub, subst, suffices, sym, tables, through, type_size, u64, use1, walk_of, whole, whole_in, ‵, ℕ, ◌$◌, ◌*◌, ◌<◌, ◌^◌, ◌∙◌, ◌∵◌, ◌∷◌, ◌≡◌, ◌⊛◌}
 use Rattle.queue.specs.contracts.offer.Offer.{the_row as offer_row}
 use Rattle.queue.specs.declared.offer.Offer.{Offer}
-use denote.Memory.{part_of}
 use Rattle.plate_c.specs.Loans.{with_entries}
 use Rattle.plate_c.specs.contracts.lent.LentEntries.{the_row as S, the_type}
 use Rattle.plate_c.specs.contracts.lent.LentEntries.slice as f
 use Rattle.plate_c.specs.declared.lent.LentEntries.{LentEntries}
+use Rattle.plate_c.proofs.Returned.{returned}
 use Rattle.plate_c.proofs.lent.LentEntries.TheLaws.{lowers}
 use Rattle.plate_c.proofs.lent.LentEntries.slice.Code as code
 use Rattle.plate_c.proofs.lent.LentEntries.slice.Statement.{statement}
@@ -22,19 +22,6 @@ stayed = (stay_dropped (mut_ref_to (0 ∷ []) tt (plain (λ _. S))) no, tt)
 -- all but the elements
 abbrev Rest : LentEntries → List Val → ℕ → ℕ → Fml
 Rest h us rb ro = fsep ((Struct (shape the_type)).own_val (h.at, (h.len, tt)) us) (cell_at full_share S.mir us rb ro)
-
-back : {M : Type 1} {𝓤 : Ura M} (𝓛 : Logic 𝓤) (h : LentEntries) (us : List Val) (rb ro b o : ℕ) → h.at ≡ block_ptr b o → h.len * type_size E < 2 ^ 63 → length h.entries ≡ h.len
-    → (ws : List (Offer ℕ)) → length ws ≡ length h.entries → ent 𝓤 (sep 𝓤 (sem 𝓛 (cells (mem E) ws b o)) (sem 𝓛 (Rest h us rb ro))) (sem 𝓛 ((mem S).own_at (with_entries h ws) rb ro))
-unfolding part_of
-back 𝓛 h us rb ro b o e small lens ws same =
-    qed 𝓛 (‵ (cells (mem E) ws b o) ∷ ‵ (Rest h us rb ro) ∷ []) ∵
-    use1 𝓛 (‵ (row E full_share ws b o)) (whole_out 𝓛 E ws b o) $ feq_i ! ℕ (length ws) h.len (same ∙ lens) $ fjoin ! $
-    use1 𝓛 (‵ (part_at (Array E h.len) full_share ws b o)) (Array-whole 𝓛 E full_share h.len ws b o) $
-    rewrite ! 0 (λ (p : Ptr). ‵ (lies_at (Array E h.len) full_share p ws)) (sym e) refl $
-    flt_i ! (h.len * type_size E) (2 ^ 63) small $ fjoin ! $ move ! (1 ∷ []) $ fsplit ! $
-    -- [the fields; the struct's cell; the elements]
-    move ! (0 ∷ 2 ∷ []) $ fjoin ! $ move ! (1 ∷ 0 ∷ []) $ fjoin ! $
-    fpack ! (List Val) (λ vs. fsep (cell_at full_share S.mir vs rb ro) (S.own_val (with_entries h ws) vs)) us $ done !
 
 pub slice_spec : {M : Type 1} → statement M
 slice_spec 𝓤 𝓛 𝓜 𝓡 wired =
@@ -67,7 +54,7 @@ slice_spec 𝓤 𝓛 𝓜 𝓡 wired =
     use1 𝓛 (‵ (cells (mem E) xs b o)) (whole_in 𝓛 E xs b o) $
     let roomy : length xs < 2 ^ 64 = omega (arith, fits_len, lens) in
     let fitting : length xs * type_size E < 2 ^ 63 = subst (λ (k : ℕ). k * type_size E < 2 ^ 63) (sym lens) small in
-    let way = back 𝓛 h us rb ro b o e small lens in
+    let way = λ (ws : List (Offer ℕ)) (same : length ws ≡ length xs). returned 𝓛 E S ((Struct (shape the_type)).own_val (h.at, (h.len, tt)) us) (with_entries h ws) us h.at h.len rb ro b o ws refl e small (same ∙ lens) in
     move ! (1 ∷ 2 ∷ []) $ fjoin ! $ move ! (2 ∷ 3 ∷ 4 ∷ 1 ∷ 0 ∷ []) $ group ! 5 $
     use1 𝓛 (later (some (λ (δ : GName). raw (Elements 𝓛 S E (with_entries h) (named 0) κ q rb ro b o γ xs (roomy, fitting) (sem 𝓛 (Rest h us rb ro)) way δ))))
     (lends_Elements 𝓛 S E (with_entries h) (named 0) κ q rb ro b o γ xs (roomy, fitting) (sem 𝓛 (Rest h us rb ro)) way (S.coded.code h) (S.coded.code h)) $ await ! tt $ pick ! (λ δ.
