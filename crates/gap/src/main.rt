@@ -2,13 +2,11 @@
 #![tactic(auto)]
 
 use console::gap_line;
-use sheets::lines::LONGEST;
+use ending::read_input;
 use std::io;
-use std::io::Read;
 
 fn main(rt: HostRuntime) -> io::Result<()> {
-    let mut sheet = Vec::new(rt.alloc());
-    rt.stdin().take(LONGEST as u64 + 1).read_to_end(&mut sheet)?;
+    let sheet = read_input(rt.alloc(), rt.stdin())?;
     let line = gap_line(&sheet);
     print!(rt; "{line}")
 }

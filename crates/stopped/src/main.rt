@@ -21,6 +21,9 @@ fn main(rt: HostRuntime) -> io::Result<()> {
 }
 
 #[cfg(test)]
+mod reading;
+
+#[cfg(test)]
 mod tests {
     use super::*;
     use board::Refusal;

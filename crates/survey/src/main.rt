@@ -7,16 +7,14 @@ mod output;
 mod script;
 
 use board::{Cell, MapRecord};
-use ending::{Stop, finish};
+use ending::{Stop, finish, read_input};
 use gauges::{Chessboard, WholeRuler};
 use lengths::Whole;
 use output::{print_answer, print_call};
 use queue::Offer;
 use runs::{Answer, RulerCall, Space, Tables, run_by_ruler};
 use script::Script;
-use sheets::lines::LONGEST;
 use std::io;
-use std::io::Read;
 
 // A plate's cells are at most 256 times 256.
 const CELLS: usize = 65536;
@@ -67,7 +65,6 @@ fn survey(rt: &(impl Print + AllocGlobal), input: &[u8]) -> Result<(), Stop> {
 }
 
 fn main(rt: HostRuntime) -> io::Result<()> {
-    let mut input = Vec::new(rt.alloc());
-    rt.stdin().take(LONGEST as u64 + 1).read_to_end(&mut input)?;
+    let input = read_input(rt.alloc(), rt.stdin())?;
     finish(&mut io::writer(&rt), survey(&rt, &input))
 }
