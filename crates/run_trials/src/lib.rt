@@ -376,17 +376,18 @@ mod tests {
         Ok(())
     }
 
-    // A client makes the calls one by one, over a list and marks of its own that hold something else.
-    #[test]
-    fn calls_one_by_one(rt: HostRuntime) -> Result<(), Fail> {
+    // What the last of the calls on the strip replies that a client makes one by one, over a list and marks of its own.
+    fn last_reply(
+        calls: &[RulerCall],
+        list: &mut [u16],
+        marks: &mut [u8],
+    ) -> Result<Reply<Whole>, Refusal> {
         let (mut cells, mut groups) = ([HIGH; 4], [2; 64]);
         let (mut first, mut second) = ([OLD; 3], [OLD; 5]);
         let mut entries = [NO_OFFER; 27];
-        let (mut list, mut marks) = ([77; 5], [7; 4]);
         let mut plate = Plate::Draft(Draft::open(1, 3, &mut cells, &mut groups)?);
         let mut last = Reply::Done;
-        let calls = [MEASURE_1, MEASURE_2, way(5), RulerCall::Route { room: 3 }];
-        for call in BUILT.iter().chain(&calls) {
+        for call in BUILT.iter().chain(calls) {
             let (after, reply) = carry_out_by_ruler(
                 &BY_CHESSBOARD,
                 plate,
@@ -395,17 +396,41 @@ mod tests {
                 &mut first,
                 &mut second,
                 &mut entries,
-                &mut list,
-                &mut marks,
+                list,
+                marks,
                 *call,
             );
             plate = after;
             last = reply;
         }
-        assert_eq!(rt; last, Reply::Route(3));
+        Ok(last)
+    }
+
+    #[test]
+    fn calls_one_by_one(rt: HostRuntime) -> Result<(), Fail> {
+        let (mut list, mut marks) = ([77; 5], [7; 4]);
+        let route = RulerCall::Route { room: 3 };
+        let calls = [MEASURE_1, MEASURE_2, way(5), route];
+        let reply = last_reply(&calls, &mut list, &mut marks)?;
+        assert_eq!(rt; reply, Reply::Route(3));
         assert_eq!(rt; list, [2, 1, 0, 77, 77]);
         assert_eq!(rt; marks, [1, 1, 1, 7]);
-        assert_eq!(rt; cells[3], HIGH);
+        Ok(())
+    }
+
+    // A way into a list just long enough, into one that is too short however much room the call names, and of an unreached cell.
+    #[test]
+    fn ways_count_their_cells(rt: HostRuntime) -> Result<(), Fail> {
+        let mut list = [77; 3];
+        let reply = last_reply(&[MEASURE_1, way(usize::MAX)], &mut list, &mut [])?;
+        assert_eq!(rt; reply, Reply::Way(3));
+        assert_eq!(rt; list, [2, 1, 0]);
+        let mut list = [77; 2];
+        let reply = last_reply(&[MEASURE_1, way(usize::MAX)], &mut list, &mut [])?;
+        assert_eq!(rt; reply, Reply::Refused(Refusal::Short));
+        assert_eq!(rt; list, [77; 2]);
+        let reply = last_reply(&[BAR, MEASURE_1, way(9)], &mut [], &mut [])?;
+        assert_eq!(rt; reply, Reply::Way(0));
         Ok(())
     }
 }

@@ -66,6 +66,10 @@ module _ (cells : Result (List ℕ) Refusal) (part part' : List ℕ) (r : Result
       whole_kept k n table part' (walked_counted k is) (long ∙ ap length lent)
       (ap (drop k) walks.table ∙ way_behind cells part k (sym walks.answer ∙ is) ∙ ap (drop k) lent)
 
+  -- as many cells of the list are told as are counted
+  pub walked_count : (k : ℕ) (rest : List ℕ) → r ≡ Ok k → k ≡ length (take k (part' ++ rest))
+  walked_count k rest is = sym (length-take-le k (part' ++ rest) (omega (arith, walked_counted k is, length-append part' rest)))
+
   pub unwalked_list : (e : Refusal) (n : ℕ) (table : List ℕ) → part ≡ take n table → r ≡ Err e → part' ++ drop n table ≡ table
   unwalked_list e n table lent is = whole_same n table part' (walks.table ∙ way_unwritten cells part e (sym walks.answer ∙ is) ∙ lent)
 

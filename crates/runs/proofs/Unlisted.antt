@@ -1,10 +1,10 @@
 -- Calls that write no list or no marks say none. Assumes nothing.
-use Rattle.std.proofs.Common.{◌≡◌, ℕ, Bool, true, false, List, [], None, Some, Ok, Err, Option, Result, refl, sym, subst, ap, ◌∙◌, arith}
+use Rattle.std.proofs.Common.{◌≡◌, ℕ, Bool, true, false, List, [], length, None, Some, Ok, Err, Option, Result, refl, sym, subst, ap, ◌∙◌, arith}
 use Rattle.board.specs.declared.refusal.Refusal.{Refusal}
 use Rattle.lengths.specs.Kinds.{Kind, Rows}
 use Rattle.gauges.specs.Meanings.{Crossing}
 use Rattle.measuring.specs.declared.Counts.{Counts}
-use Rattle.runs.specs.Replies.{cells_told, in_front, marks_told, told}
+use Rattle.runs.specs.Replies.{cells_counted, cells_told, in_front, marks_told, told, way_within}
 use Rattle.runs.specs.Said.{Said}
 use Rattle.runs.specs.Said.Said.{done, measured, distance, nearest, way, gap, route, refused, not_allowed}
 use Rattle.runs.specs.Histories.{measured_now}
@@ -83,6 +83,17 @@ no_cells (reply.Route count) list marks says = refl
 no_cells (reply.Refused e) list marks says = refl
 no_cells reply.NotAllowed list marks says = refl
 
+no_count : {L : Type 0} (reply : Reply L) (list marks : List ℕ) → says_cells (told reply list marks) ≡ false → cells_counted reply ≡ length (cells_told reply list)
+no_count (reply.Way count) list marks says = absurd (grind arith)
+no_count reply.Done list marks says = refl
+no_count (reply.Measured counts) list marks says = refl
+no_count (reply.Distance d) list marks says = refl
+no_count (reply.Nearest p) list marks says = refl
+no_count (reply.Gap d) list marks says = refl
+no_count (reply.Route count) list marks says = refl
+no_count (reply.Refused e) list marks says = refl
+no_count reply.NotAllowed list marks says = refl
+
 no_marks : {L : Type 0} (plate : Plate) (reply : Reply L) (list marks lent : List ℕ) → says_marks (told reply list lent) ≡ false → marks_told plate reply marks ≡ []
 no_marks plate (reply.Route count) list marks lent says = absurd (grind arith)
 no_marks plate reply.Done list marks lent says = refl
@@ -112,9 +123,16 @@ plain_unmarked L (Nearest row column group) = tt
 plain_unmarked L Seal = tt
 plain_unmarked L Break = tt
 
+-- a call that is this one, which is no way
+pub not_way : (L : Type 0) (n : ℕ) (call call' : Call) → call ≡ call' → Unlisted {L = L} says_cells (Plain (way_within n call')) → Unlisted {L = L} says_cells (Plain (way_within n call))
+not_way L n call call' is none = subst (λ call. Unlisted {L = L} says_cells (Plain (way_within n call))) (sym is) none
+
 module _ {L R : Type 0} (kind : Kind L) (rows : Rows L R) (g : Crossing L) (sums : Option (L → L → L)) (entries : ℕ) (s s' : State R) (answer : Reply L) (list marks : List ℕ) (call : RulerCall) (step : Steps entries s (told answer list marks) s' kind rows g sums call) where
   pub list_unused : Unlisted {L = L} says_cells call → cells_told answer list ≡ []
   list_unused none = no_cells answer list marks (step_silent says_cells silent_cells kind rows g sums entries s (told answer list marks) s' call none step)
+
+  pub none_counted : Unlisted {L = L} says_cells call → cells_counted answer ≡ length (cells_told answer list)
+  none_counted none = no_count answer list marks (step_silent says_cells silent_cells kind rows g sums entries s (told answer list marks) s' call none step)
 
   pub marks_unused : Unlisted {L = L} says_marks call → (plate : Plate) (lent : List ℕ) → marks_told plate answer lent ≡ []
   marks_unused none plate lent = no_marks plate answer list lent marks (step_silent says_marks silent_marks kind rows g sums entries s (told answer list marks) s' call none step)
@@ -122,6 +140,10 @@ module _ {L R : Type 0} (kind : Kind L) (rows : Rows L R) (g : Crossing L) (sums
 -- a list of which nothing is said stays
 pub list_kept : {L : Type 0} (a : Reply L) (list table : List ℕ) → list ≡ table → cells_told a list ≡ [] → list ≡ in_front (cells_told a list) table
 list_kept a list table same none = same ∙ sym (ap (λ cells. in_front cells table) none)
+
+-- a count by values that are equal to these
+pub counted_alike : {L : Type 0} (a a' : Reply L) (list list' : List ℕ) → a' ≡ a → list' ≡ list → cells_counted a ≡ length (cells_told a list) → cells_counted a' ≡ length (cells_told a' list')
+counted_alike a a' list list' ea el counted = ap cells_counted ea ∙ counted ∙ sym (λ k. length (cells_told (ea k) (el k)))
 
 -- a list that was written, by values that are equal to these
 pub list_written : {L : Type 0} (a a' : Reply L) (list list' table : List ℕ) → a' ≡ a → list' ≡ list → list ≡ in_front (cells_told a list) table → list' ≡ in_front (cells_told a' list') table

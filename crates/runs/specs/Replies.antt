@@ -47,6 +47,11 @@ abbrev pub marks_told : {L : Type 0} → Plate → Reply L → List ℕ → List
 marks_told plate (reply.Route count) marks = take (area (header_of plate).size) marks
 marks_told plate _ marks = []
 
+-- how many cells of the list a reply says are a way's
+abbrev pub cells_counted : {L : Type 0} → Reply L → ℕ
+cells_counted (reply.Way count) = count
+cells_counted _ = 0
+
 -- a table with these entries in front, and as it was behind them
 abbrev pub in_front : List ℕ → List ℕ → List ℕ
 in_front front table = front ++ drop (length front) table

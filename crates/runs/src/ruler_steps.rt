@@ -3,7 +3,7 @@ ghost use Rattle.std.specs.Prelude.{◌≡◌, ℕ, ◌*◌, List, Some, length,
 ghost use Rattle.board.specs.Sizes.{area};
 ghost use Rattle.runs.specs.Plates.{RulerStep, header_of, state};
 ghost use Rattle.runs.specs.Histories.{measured_now};
-ghost use Rattle.runs.specs.Replies.{cells_told, in_front, marks_told, told, told_of, within};
+ghost use Rattle.runs.specs.Replies.{cells_counted, cells_told, in_front, marks_told, told, told_of, within};
 ghost use Rattle.runs.specs.Steps.{QueueLeft, Steps};
 ghost use Rattle.runs.specs.declared.call.RulerCall.TheVariants as call;
 
@@ -73,6 +73,7 @@ pub fn carry_out_by_ruler<R: Ruler>(
     ensures queue { QueueLeft (9 * area (header_of plate).size)
         (measured_now call (told_of plate result.1 list.new marks.new)) entries.old entries.new }
     ensures list { list.new ≡ in_front (cells_told result.1 list.new) list.old }
+    ensures count { cells_counted result.1 ≡ length (cells_told result.1 list.new) }
     ensures marks { marks.new ≡ in_front (marks_told plate result.1 marks.new) marks.old }
 {
     match call {

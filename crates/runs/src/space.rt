@@ -81,7 +81,7 @@ fn places_of<C: RunCall, K: Length>(
 
 impl<'a, C: RunCall, K: Length> Space<'a, C, K> {
     /// Takes the memory. It is lent no table, so that nothing has happened where memory is short, which is its only error. Where there is nothing
-    /// to make, no call or a size that no plate has, it asks for none.
+    /// to make, no call or a size that no plate has, it succeeds.
     pub fn reserve(
         alloc: Global,
         rows: u16,

@@ -4,7 +4,7 @@ ghost use Rattle.board.specs.Sizes.{area};
 ghost use Rattle.board.specs.declared.record.MapRecord.{MapRecord as TheRecord};
 ghost use Rattle.runs.specs.Plates.{OnCells, OnGroups, OnMaps, PlainStep, header_of, state};
 ghost use Rattle.runs.specs.Histories.{measured_now};
-ghost use Rattle.runs.specs.Replies.{cells_told, in_front, told, way_within};
+ghost use Rattle.runs.specs.Replies.{cells_counted, cells_told, in_front, told, way_within};
 ghost use Rattle.runs.specs.Said.Said.{done, measured, distance, nearest};
 ghost use Rattle.runs.specs.Steps.{QueueLeft, Steps, telling};
 ghost use Rattle.runs.specs.declared.call.Call.TheVariants as call;
@@ -163,6 +163,7 @@ fn way<K: Length>(
         (call.Way row column group (min room (length list.old))) (told result list.new marks)
         plate.now plate.now first.now second.now }
     ensures list { list.new ≡ in_front (cells_told result list.new) list.old }
+    ensures count { cells_counted result ≡ length (cells_told result list.new) }
 {
     let lent = room.min(list.len());
     let map = map_of(first, second, group);
@@ -215,6 +216,7 @@ pub fn carry_out<G: Gauge>(
     ensures queue { QueueLeft (9 * area (header_of plate).size)
         (measured_now (Plain call) (told result.1 list.new [])) entries.old entries.new }
     ensures list { list.new ≡ in_front (cells_told result.1 list.new) list.old }
+    ensures count { cells_counted result.1 ≡ length (cells_told result.1 list.new) }
 {
     let mut plate = plate;
     let reply = match call {

@@ -4,7 +4,7 @@ use Rattle.board.specs.Sizes.{area}
 use Rattle.runs.specs.Plates.{header_of, state}
 use Rattle.runs.specs.Replies.{way_within}
 use Rattle.runs.specs.declared.call.RulerCall.TheVariants.{Gap, Plain, Route}
-use Rattle.runs.proofs.Unlisted.{list_kept, list_unused, marks_kept, marks_unused, plain_marks, plain_queue, plain_step}
+use Rattle.runs.proofs.Unlisted.{list_kept, list_unused, marks_kept, marks_unused, none_counted, plain_marks, plain_queue, plain_step}
 use Rattle.runs.proofs.ruler_steps.carry_out_by_ruler.Goals as goal
 
 pub returns-in-Plain-clause-steps : goal.returns-in-Plain-clause-steps
@@ -42,6 +42,12 @@ returns-in-Gap-clause-list g c =
     (list_unused g.R.Length.Length.kind g.R.Length.Length.rows (g.R.Gauge.crossing c.args.ruler.now) (Some (g.R.Ruler.ruling c.args.ruler.now).sum) 0 start start c.gap-reply.result c.args.list.now [] Gap
     (c.gap-reply.ensures c.args.list.now [] (g.R.Gauge.crossing c.args.ruler.now) c.args.cells.now c.args.groups.now 0) tt)
 
+pub returns-in-Gap-clause-count : goal.returns-in-Gap-clause-count
+returns-in-Gap-clause-count g c =
+    let start = state c.args.plate c.args.cells.now c.args.groups.now c.args.first.now c.args.second.now in
+    none_counted g.R.Length.Length.kind g.R.Length.Length.rows (g.R.Gauge.crossing c.args.ruler.now) (Some (g.R.Ruler.ruling c.args.ruler.now).sum) 0 start start c.gap-reply.result c.args.list.now [] Gap
+    (c.gap-reply.ensures c.args.list.now [] (g.R.Gauge.crossing c.args.ruler.now) c.args.cells.now c.args.groups.now 0) tt
+
 pub returns-in-Gap-clause-marks : goal.returns-in-Gap-clause-marks
 returns-in-Gap-clause-marks g c =
     let start = state c.args.plate c.args.cells.now c.args.groups.now c.args.first.now c.args.second.now in
@@ -60,3 +66,9 @@ returns-in-Route-clause-list g c =
     list_kept c.route-reply.result c.args.list.now c.args.list.now refl
     (list_unused g.R.Length.Length.kind g.R.Length.Length.rows (g.R.Gauge.crossing c.args.ruler.now) (Some (g.R.Ruler.ruling c.args.ruler.now).sum) 0 start start c.route-reply.result c.args.list.now _ (Route _)
     (c.route-reply.ensures.steps c.args.list.now (g.R.Gauge.crossing c.args.ruler.now) c.args.cells.now c.args.groups.now 0) (λ marks count. refl))
+
+pub returns-in-Route-clause-count : goal.returns-in-Route-clause-count
+returns-in-Route-clause-count g c =
+    let start = state c.args.plate c.args.cells.now c.args.groups.now c.args.first.now c.args.second.now in
+    none_counted g.R.Length.Length.kind g.R.Length.Length.rows (g.R.Gauge.crossing c.args.ruler.now) (Some (g.R.Ruler.ruling c.args.ruler.now).sum) 0 start start c.route-reply.result c.args.list.now _ (Route _)
+    (c.route-reply.ensures.steps c.args.list.now (g.R.Gauge.crossing c.args.ruler.now) c.args.cells.now c.args.groups.now 0) (λ marks count. refl)

@@ -1,10 +1,11 @@
 -- Each call is lent its own tables, and the others stay. Assumes nothing.
-use Rattle.std.proofs.Common.{◌≡◌, ◌*◌, [], None, length, refl, subst, sym}
+use Rattle.std.proofs.Common.{◌≡◌, ◌*◌, [], None, length, refl}
 use Rattle.board.specs.Sizes.{area}
 use Rattle.runs.specs.Plates.{header_of, state}
 use Rattle.runs.proofs.Replied.{queued, stepped, untouched}
-use Rattle.runs.specs.Replies.{way_within}
-use Rattle.runs.proofs.Unlisted.{Unlisted, list_kept, list_unused, list_written, says_cells}
+use Rattle.runs.specs.Replies.{cells_counted, cells_told, in_front, way_within}
+use Rattle.runs.specs.declared.call.Call.{Call}
+use Rattle.runs.proofs.Unlisted.{Unlisted, counted_alike, list_kept, list_unused, list_written, none_counted, not_way, says_cells}
 use Rattle.runs.specs.declared.call.RulerCall.TheVariants.{Plain}
 use Rattle.runs.proofs.steps.carry_out.Goals as goal
 use Rattle.runs.proofs.steps.carry_out.Goals.{in-Set, in-Bar, in-Enrol, in-Measure, in-Distance, in-Nearest, in-Way}
@@ -56,26 +57,57 @@ pub returns-in-Seal-clause-list : goal.returns-in-Seal-clause-list
 returns-in-Seal-clause-list g c =
     list_kept c.seal.result.1 c.args.list.now c.args.list.now refl
     (list_unused g.G.Length.Length.kind g.G.Length.Length.rows (g.G.Gauge.crossing c.args.gauge.now) None (length c.args.entries.now) (state c.args.plate c.args.cells.now c.args.groups.now c.args.first.now c.args.second.now) (state c.seal.result.0 c.args.cells.now c.args.groups.now c.args.first.now c.args.second.now) c.seal.result.1 c.args.list.now [] (Plain (way_within (length c.args.list.now) c.args.call)) (returns-in-Seal-clause-steps g c)
-    (subst (λ call. Unlisted {L = g.row.G-Length.Denot} says_cells (Plain (way_within (length c.args.list.now) call))) (sym c.in-Seal.is) tt))
+    (not_way g.row.G-Length.Denot (length c.args.list.now) c.args.call _ c.in-Seal.is tt))
+
+pub returns-in-Seal-clause-count : goal.returns-in-Seal-clause-count
+returns-in-Seal-clause-count g c =
+    none_counted g.G.Length.Length.kind g.G.Length.Length.rows (g.G.Gauge.crossing c.args.gauge.now) None (length c.args.entries.now) (state c.args.plate c.args.cells.now c.args.groups.now c.args.first.now c.args.second.now) (state c.seal.result.0 c.args.cells.now c.args.groups.now c.args.first.now c.args.second.now) c.seal.result.1 c.args.list.now [] (Plain (way_within (length c.args.list.now) c.args.call)) (returns-in-Seal-clause-steps g c)
+    (not_way g.row.G-Length.Denot (length c.args.list.now) c.args.call _ c.in-Seal.is tt)
 
 pub returns-in-Break-clause-list : goal.returns-in-Break-clause-list
 returns-in-Break-clause-list g c =
     list_kept c.break_seal.result.1 c.args.list.now c.args.list.now refl
     (list_unused g.G.Length.Length.kind g.G.Length.Length.rows (g.G.Gauge.crossing c.args.gauge.now) None (length c.args.entries.now) (state c.args.plate c.args.cells.now c.args.groups.now c.args.first.now c.args.second.now) (state c.break_seal.result.0 c.args.cells.now c.args.groups.now c.args.first.now c.args.second.now) c.break_seal.result.1 c.args.list.now [] (Plain (way_within (length c.args.list.now) c.args.call)) (returns-in-Break-clause-steps g c)
-    (subst (λ call. Unlisted {L = g.row.G-Length.Denot} says_cells (Plain (way_within (length c.args.list.now) call))) (sym c.in-Break.is) tt))
+    (not_way g.row.G-Length.Denot (length c.args.list.now) c.args.call _ c.in-Break.is tt))
+
+pub returns-in-Break-clause-count : goal.returns-in-Break-clause-count
+returns-in-Break-clause-count g c =
+    none_counted g.G.Length.Length.kind g.G.Length.Length.rows (g.G.Gauge.crossing c.args.gauge.now) None (length c.args.entries.now) (state c.args.plate c.args.cells.now c.args.groups.now c.args.first.now c.args.second.now) (state c.break_seal.result.0 c.args.cells.now c.args.groups.now c.args.first.now c.args.second.now) c.break_seal.result.1 c.args.list.now [] (Plain (way_within (length c.args.list.now) c.args.call)) (returns-in-Break-clause-steps g c)
+    (not_way g.row.G-Length.Denot (length c.args.list.now) c.args.call _ c.in-Break.is tt)
 
 pub returns-clause-list : goal.returns-clause-list
 returns-clause-list g c =
     let all = c.match-call in
-    let kept = λ (same : all.list ≡ c.args.list.now) (other : Unlisted {L = g.row.G-Length.Denot} says_cells (Plain (way_within (length c.args.list.now) c.args.call))).
-    list_kept all.reply all.list c.args.list.now same
-    (list_unused g.G.Length.Length.kind g.G.Length.Length.rows (g.G.Gauge.crossing c.args.gauge.now) None (length c.args.entries.now) (state c.args.plate c.args.cells.now c.args.groups.now c.args.first.now c.args.second.now) (state all.plate all.cells all.groups all.first all.second) all.reply all.list [] (Plain (way_within (length c.args.list.now) c.args.call)) (returns-clause-steps g c) other) in
+    let n = length c.args.list.now in
+    let kept : all.list ≡ c.args.list.now → (call : Call) → c.args.call ≡ call → Unlisted {L = g.row.G-Length.Denot} says_cells (Plain (way_within n call)) → all.list ≡ in_front (cells_told all.reply all.list) c.args.list.now =
+    λ same call is none. list_kept all.reply all.list c.args.list.now same
+    (list_unused g.G.Length.Length.kind g.G.Length.Length.rows (g.G.Gauge.crossing c.args.gauge.now) None (length c.args.entries.now) (state c.args.plate c.args.cells.now c.args.groups.now c.args.first.now c.args.second.now)
+    (state all.plate all.cells all.groups all.first all.second) all.reply all.list [] (Plain (way_within (length c.args.list.now) c.args.call)) (returns-clause-steps g c)
+    (not_way g.row.G-Length.Denot n c.args.call call is none)) in
     elim c.match-call.branch [
-      | in-Set w ↦ kept w.list-is (subst (λ call. Unlisted {L = g.row.G-Length.Denot} says_cells (Plain (way_within (length c.args.list.now) call))) (sym w.in-Set.is) tt)
-      | in-Bar w ↦ kept w.list-is (subst (λ call. Unlisted {L = g.row.G-Length.Denot} says_cells (Plain (way_within (length c.args.list.now) call))) (sym w.in-Bar.is) tt)
-      | in-Enrol w ↦ kept w.list-is (subst (λ call. Unlisted {L = g.row.G-Length.Denot} says_cells (Plain (way_within (length c.args.list.now) call))) (sym w.in-Enrol.is) tt)
-      | in-Measure w ↦ kept w.list-is (subst (λ call. Unlisted {L = g.row.G-Length.Denot} says_cells (Plain (way_within (length c.args.list.now) call))) (sym w.in-Measure.is) tt)
-      | in-Distance w ↦ kept w.list-is (subst (λ call. Unlisted {L = g.row.G-Length.Denot} says_cells (Plain (way_within (length c.args.list.now) call))) (sym w.in-Distance.is) tt)
-      | in-Nearest w ↦ kept w.list-is (subst (λ call. Unlisted {L = g.row.G-Length.Denot} says_cells (Plain (way_within (length c.args.list.now) call))) (sym w.in-Nearest.is) tt)
+      | in-Set w ↦ kept w.list-is _ w.in-Set.is tt
+      | in-Bar w ↦ kept w.list-is _ w.in-Bar.is tt
+      | in-Enrol w ↦ kept w.list-is _ w.in-Enrol.is tt
+      | in-Measure w ↦ kept w.list-is _ w.in-Measure.is tt
+      | in-Distance w ↦ kept w.list-is _ w.in-Distance.is tt
+      | in-Nearest w ↦ kept w.list-is _ w.in-Nearest.is tt
       | in-Way w ↦ list_written _ _ _ _ c.args.list.now w.reply-is w.list-is w.way-reply.ensures.list
+    ]
+
+pub returns-clause-count : goal.returns-clause-count
+returns-clause-count g c =
+    let all = c.match-call in
+    let n = length c.args.list.now in
+    let none : (call : Call) → c.args.call ≡ call → Unlisted {L = g.row.G-Length.Denot} says_cells (Plain (way_within n call)) → cells_counted all.reply ≡ length (cells_told all.reply all.list) =
+    λ call is none. none_counted g.G.Length.Length.kind g.G.Length.Length.rows (g.G.Gauge.crossing c.args.gauge.now) None (length c.args.entries.now) (state c.args.plate c.args.cells.now c.args.groups.now c.args.first.now c.args.second.now)
+    (state all.plate all.cells all.groups all.first all.second) all.reply all.list [] (Plain (way_within (length c.args.list.now) c.args.call)) (returns-clause-steps g c)
+    (not_way g.row.G-Length.Denot n c.args.call call is none) in
+    elim c.match-call.branch [
+      | in-Set w ↦ none _ w.in-Set.is tt
+      | in-Bar w ↦ none _ w.in-Bar.is tt
+      | in-Enrol w ↦ none _ w.in-Enrol.is tt
+      | in-Measure w ↦ none _ w.in-Measure.is tt
+      | in-Distance w ↦ none _ w.in-Distance.is tt
+      | in-Nearest w ↦ none _ w.in-Nearest.is tt
+      | in-Way w ↦ counted_alike _ _ _ _ w.reply-is w.list-is w.way-reply.ensures.count
     ]

@@ -1,7 +1,7 @@
 -- The part that is lent holds the way. Assumes nothing.
 use Rattle.std.proofs.Common.{length, take, min, refl}
 use Rattle.runs.specs.Plates.{state}
-use Rattle.runs.proofs.Parts.{lent_length, unwalked_list, walked_list, way_refused, way_walked}
+use Rattle.runs.proofs.Parts.{lent_length, unwalked_list, walked_count, walked_list, way_refused, way_walked}
 use Rattle.runs.proofs.steps.way.Goals as goal
 
 pub returns-in-Ok-clause-steps : goal.returns-in-Ok-clause-steps
@@ -15,6 +15,9 @@ pub returns-in-Ok-clause-list : goal.returns-in-Ok-clause-list
 returns-in-Ok-clause-list g c =
     let n = c.min-lent.result in
     walked_list _ (take n c.args.list.now) c.way.new.list c.way.result c.way.ensures c.in-Ok.count n c.args.list.now refl c.way.auto.list c.in-Ok.is
+
+pub returns-in-Ok-clause-count : goal.returns-in-Ok-clause-count
+returns-in-Ok-clause-count g c = walked_count _ (take c.min-lent.result c.args.list.now) c.way.new.list c.way.result c.way.ensures c.in-Ok.count _ c.in-Ok.is
 
 pub returns-in-Err-clause-steps : goal.returns-in-Err-clause-steps
 returns-in-Err-clause-steps g c marks gauge cells groups entries sums =
