@@ -5,12 +5,15 @@ use Rattle.board.specs.declared.refusal.Refusal.TheVariants.{Group, Off, Outdate
 use Rattle.board.specs.declared.size.Size.{Size}
 use Rattle.plate.specs.Edits.{barred_cell}
 use Rattle.runs.specs.Said.{Said}
-use Rattle.runs.specs.Said.Said.{done, measured, refused}
+use Rattle.runs.specs.Replies.{cells_counted, in_front, told, within}
+use Rattle.runs.specs.Said.Said.{done, measured, refused, way}
 use Rattle.runs.specs.Histories.{Event, current, ledger, sealed}
 use Rattle.runs.specs.Truths.{Rooms, allowed, sent_back}
-use Rattle.runs.specs.declared.call.Call.TheVariants.{Set, Bar, Enrol, Measure, Distance, Seal, Break}
+use Rattle.runs.specs.declared.call.Call.TheVariants.{Set, Bar, Enrol, Measure, Distance, Way, Seal, Break}
 use Rattle.runs.specs.declared.call.RulerCall.{RulerCall}
 use Rattle.runs.specs.declared.call.RulerCall.TheVariants.{Plain, Gap, Route}
+use Rattle.runs.specs.declared.reply.Reply.{Reply}
+use Rattle.runs.specs.declared.reply.Reply.TheVariants as reply
 
 abbrev pub pair : Size
 pair = record { rows = 1; columns = 2; some_rows = lit≤ tt; few_rows = lit≤ tt; some_columns = lit≤ tt; few_columns = lit≤ tt }
@@ -37,6 +40,10 @@ rooms = record { cells = 2; groups = 64; first = 2; second = 1; entries = 18 }
 abbrev pub roomy : Rooms
 roomy = record { cells = 2; groups = 64; first = 2; second = 2; entries = 18 }
 
+-- a reply that a way has so many cells of the list
+abbrev pub way_of : ℕ → Reply ℕ
+way_of count = reply.Way count
+
 pub record Examples : Type 0 where
   pub cells : (ledger pair broken).cells ≡ record { height = 7; pad = 1; barred = false } ∷ barred_cell ∷ []
   pub groups : (ledger pair (then (Plain (Enrol 3 2)) done [])).groups ≡ 0 ∷ 0 ∷ 2 ∷ replicate 61 0
@@ -61,3 +68,13 @@ pub record Examples : Type 0 where
   pub group_first : sent_back roomy pair (current built) (Plain (Distance 0 1 3)) ≡ Some Group
   pub then_outdated : sent_back roomy pair (current built) (Plain (Distance 0 1 2)) ≡ Some Outdated
   pub both_maps : sent_back roomy pair (current built) Gap ≡ Some Outdated
+  pub less_room_than_lent : within 5 3 (Plain (Way 0 1 2 4)) ≡ Plain (Way 0 1 2 4)
+  pub less_lent_than_room : within 5 3 (Plain (Way 0 1 2 6)) ≡ Plain (Way 0 1 2 5)
+  pub less_marks_than_room : within 5 3 (Route 4) ≡ Route 3
+  pub no_room : within 5 3 (Route 0) ≡ Route 0
+  pub no_way_to_cut : within 0 0 (Plain (Bar 0 1)) ≡ Plain (Bar 0 1)
+  pub way_told : told (way_of 2) (7 ∷ 8 ∷ 9 ∷ []) [] ≡ way (7 ∷ 8 ∷ [])
+  pub way_counted : cells_counted (way_of 2) ≡ 2
+  pub no_cell_told : told (way_of 0) (7 ∷ 8 ∷ []) [] ≡ way []
+  pub written_in_front : in_front (1 ∷ 2 ∷ []) (7 ∷ 8 ∷ 9 ∷ []) ≡ 1 ∷ 2 ∷ 9 ∷ []
+  pub nothing_written : in_front [] (7 ∷ 8 ∷ []) ≡ 7 ∷ 8 ∷ []

@@ -1,8 +1,8 @@
 // A list of calls on a plate just opened, in memory that was taken for them.
-ghost use Rattle.std.specs.Prelude.{◌≡◌, ℕ, ◌*◌, List, Some, None, MatchResult, false, length, map, take};
+ghost use Rattle.std.specs.Prelude.{◌≡◌, ◌*◌, Some, None, MatchResult, false, length, map, take};
 ghost use Rattle.board.specs.Sizes.{area, bad_size};
 ghost use Rattle.runs.specs.Histories.{measured_now};
-ghost use Rattle.runs.specs.Places.{PlaceFor, PlacesFor, list_of, marks_of};
+ghost use Rattle.runs.specs.Places.{PlacesFor, list_of, marks_of};
 ghost use Rattle.runs.specs.Plates.{header_of, state};
 ghost use Rattle.runs.specs.Replies.{told, within};
 ghost use Rattle.runs.specs.Runs.{Answered, LeadsTo, Leaves, Ran, holding, opening_back, rooms, rooms_held};

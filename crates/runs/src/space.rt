@@ -1,7 +1,7 @@
 // The memory of a run, taken before its plate is opened.
-ghost use Rattle.std.specs.Prelude.{◌≡◌, ◌*◌, ◌≤◌, [], false, true, length, min, IfOk, IsOk};
+ghost use Rattle.std.specs.Prelude.{◌≡◌, ◌*◌, [], false, true, length, IfOk, IsOk};
 ghost use Rattle.board.specs.Sizes.{bad_size};
-ghost use Rattle.runs.specs.Places.{PlaceFor, PlacesFor, cells_asked, marks_asked};
+ghost use Rattle.runs.specs.Places.{PlaceFor, PlacesFor};
 
 use crate::{Answer, Call, RulerCall, RunCall};
 use board::Size;

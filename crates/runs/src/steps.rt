@@ -2,7 +2,7 @@
 ghost use Rattle.std.specs.Prelude.{◌≡◌, ℕ, ◌*◌, List, [], Option, None, cond, ◌==◌, length, min};
 ghost use Rattle.board.specs.Sizes.{area};
 ghost use Rattle.board.specs.declared.record.MapRecord.{MapRecord as TheRecord};
-ghost use Rattle.runs.specs.Plates.{OnCells, OnGroups, OnMaps, PlainStep, header_of, state};
+ghost use Rattle.runs.specs.Plates.{OnCells, OnGroups, OnMaps, header_of, state};
 ghost use Rattle.runs.specs.Histories.{measured_now};
 ghost use Rattle.runs.specs.Replies.{cells_counted, cells_told, in_front, told, way_within};
 ghost use Rattle.runs.specs.Said.Said.{done, measured, distance, nearest};

@@ -8,3 +8,4 @@ pub mod Tampered
 pub mod Fields
 pub mod Orders
 pub mod SheetOrders
+pub mod Sums

@@ -7,6 +7,7 @@ ghost use Rattle.worked_examples.specs.Limits.{Limits};
 ghost use Rattle.worked_examples.specs.Orders.{Orders};
 ghost use Rattle.worked_examples.specs.Parts.{Parts};
 ghost use Rattle.worked_examples.specs.SheetOrders.{SheetOrders};
+ghost use Rattle.worked_examples.specs.Sums.{Sums};
 ghost use Rattle.worked_examples.specs.Tampered.{Tampered};
 
 // Each of them comes out by computing.
@@ -18,4 +19,5 @@ pub fn worked_examples_hold()
     ensures fields { Fields }
     ensures orders { Orders }
     ensures sheet_orders { SheetOrders }
+    ensures sums { Sums }
 {}

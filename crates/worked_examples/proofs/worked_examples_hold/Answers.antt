@@ -282,3 +282,24 @@ returns-clause-sheet_orders c = record {
   earlier_line_before_no_end = refl;
   third_line = refl;
 }
+
+pub returns-clause-sums : goal.returns-clause-sums
+unfolding root root_from
+returns-clause-sums c = record {
+  source_alone = refl;
+  to_the_hill = refl;
+  from_no_source = refl;
+  of_no_cell = refl;
+  across = refl;
+  across_by_three_four = refl;
+  across_by_euclid = refl;
+  turned_back = refl;
+  ends_at_no_source = refl;
+  ends_in_group_1 = refl;
+  begins_in_group_2 = refl;
+  over_two_cells = refl;
+  through_a_wall = refl;
+  between_walls = refl;
+  round_the_hill = refl;
+  over_the_hill = refl;
+}
