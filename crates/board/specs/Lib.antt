@@ -1,4 +1,4 @@
-pub mod Refusals
+pub mod Outcomes
 pub mod Groups
 pub mod Sizes
 pub mod Tables

@@ -8,4 +8,5 @@ unreached_record zero = record { length = zero; reached = false; pad = 0; link =
 
 -- a cell that has an offer and is not ranked yet
 abbrev pub offered_record : {R : Type 0} → R → ℕ → ℕ → MapRecord R
-offered_record length pad link = record { length = length; reached = false; pad = pad; link = link; rank = 0 }
+offered_record length pad link =
+    record { length = length; reached = false; pad = pad; link = link; rank = 0 }

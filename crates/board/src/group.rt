@@ -1,10 +1,8 @@
 // Pad groups.
-ghost use Rattle.std.specs.Prelude.{◌≡◌};
-ghost use Rattle.board.specs.Groups.{Chooses, group_number};
+ghost use Rattle.std.specs.Prelude.{◌≡◌, true, false, MatchOption};
+ghost use Rattle.board.specs.Groups.{group_number, no_group};
 
-use crate::Refusal;
-
-// One of the two groups of pads between which a gap is measured.
+/// One of the two groups of pads between which a gap is measured.
 #[derive(Clone, Copy, Debug, PartialEq, Eq)]
 pub enum Group {
     First = 1,
@@ -12,23 +10,22 @@ pub enum Group {
 }
 
 impl Group {
+    /// The group of this number, or none where it is neither 1 nor 2.
+    pub fn new(number: u16) -> Option<Group>
+        ensures { MatchOption result (no_group number ≡ true)
+            (λ group. (no_group number ≡ false) × (group_number group ≡ number)) }
+    {
+        match number {
+            1 => Some(Group::First),
+            2 => Some(Group::Second),
+            _ => None,
+        }
+    }
+
+    /// 1 or 2.
     pub fn number(self) -> u8
         ensures { result ≡ group_number self }
     {
         self as u8
-    }
-}
-
-impl TryFrom<u16> for Group {
-    type Error = Refusal;
-
-    ghost try_from_gives = { Chooses };
-
-    fn try_from(number: u16) -> Result<Self, Refusal> {
-        match number {
-            1 => Ok(Group::First),
-            2 => Ok(Group::Second),
-            _ => Err(Refusal::Group),
-        }
     }
 }

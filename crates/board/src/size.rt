@@ -1,7 +1,14 @@
 // The size of a plate.
 ghost use Rattle.std.specs.Prelude.{◌≤◌};
 
-// 1 to 256 rows and 1 to 256 columns.
+/// What a plate is opened with: how many rows and columns it is to have. Any numbers may come; a `Size` has those that a plate can have.
+#[derive(Clone, Copy, Debug, PartialEq, Eq)]
+pub struct Dimensions {
+    pub rows: u16,
+    pub columns: u16,
+}
+
+/// 1 to 256 rows and 1 to 256 columns.
 #[derive(Clone, Copy, Debug, PartialEq, Eq)]
 pub struct Size {
     pub rows: u16,

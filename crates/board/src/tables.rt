@@ -1,22 +1,30 @@
 // Reading and filling the tables of a plate.
-ghost use Rattle.std.specs.Prelude.{◌≡◌, ◌<◌, ◌≤◌, true, false, ◌++◌, length, drop, replicate, IfSome, MatchResult};
-ghost use Rattle.board.specs.declared.refusal.Refusal.TheVariants as refusal;
-ghost use Rattle.board.specs.Sizes.{Sized, area, bad_size, cell_number};
+ghost use Rattle.std.specs.Prelude.{◌≡◌, ◌<◌, ◌≤◌, true, false, ◌++◌, length, drop, replicate, IfSome, MatchOption};
+ghost use Rattle.board.specs.Sizes.{Sized, area, bad_size, cell_at, cell_number};
 ghost use Rattle.board.specs.Tables.{group_of};
 
-use crate::{Refusal, Size};
+use crate::{Dimensions, Size};
+
+/// The most rows that a plate has, and the most columns.
+pub const LONGEST_SIDE: u16 = 256;
+
+/// How many pads a plate has: their groups take so many bytes, pad 1 first.
+pub const PADS: usize = 64;
 
 impl Size {
-    pub fn new(rows: u16, columns: u16) -> Result<Size, Refusal>
-        ensures { MatchResult result (λ s. (bad_size rows columns ≡ false) × Sized s rows columns) (λ e. (bad_size rows columns ≡ true) × (e ≡ refusal.Size)) }
+    /// The size of these dimensions, or none where rows or columns are outside 1 to 256.
+    pub fn new(dimensions: Dimensions) -> Option<Size>
+        ensures { MatchOption result (bad_size dimensions ≡ true)
+            (λ size. (bad_size dimensions ≡ false) × Sized size dimensions) }
     {
-        if !(1..=256).contains(&rows) || !(1..=256).contains(&columns) {
-            return Err(Refusal::Size);
+        let Dimensions { rows, columns } = dimensions;
+        if !(1..=LONGEST_SIDE).contains(&rows) || !(1..=LONGEST_SIDE).contains(&columns) {
+            return None;
         }
-        Ok(Size { rows, columns })
+        Some(Size { rows, columns })
     }
 
-    // How many cells there are.
+    /// How many cells there are, from 1 to 65,536.
     pub fn area(self) -> usize
         ensures value { result ≡ area self }
         ensures bound { result ≤ 65536 }
@@ -24,7 +32,14 @@ impl Size {
         self.rows as usize * self.columns as usize
     }
 
-    // The number of the cell at a row and a column, or none off the plate.
+    /// The number of the cell at a row and a column, which cells are given row by row.
+    pub fn number(self, row: u16, column: u16) -> usize
+        ensures { result ≡ cell_at self row column }
+    {
+        row as usize * self.columns as usize + column as usize
+    }
+
+    /// The number of the cell at a row and a column, or none off the plate.
     pub fn cell(self, row: u16, column: u16) -> Option<usize>
         ensures number { result ≡ cell_number self row column }
         ensures within { IfSome result (λ n. n < area self) }
@@ -32,15 +47,15 @@ impl Size {
         if row >= self.rows || column >= self.columns {
             return None;
         }
-        Some(row as usize * self.columns as usize + column as usize)
+        Some(self.number(row, column))
     }
 }
 
-// The group of a pad by the bytes of pads 1 to 64; any other pad, and a byte above 2, give 0.
+/// The group of a pad by the bytes of pads 1 to 64; any other pad, and a byte above 2, give 0.
 pub fn group_of(groups: &[u8], pad: u8) -> u8
     ensures { result ≡ group_of groups.now pad }
 {
-    if pad == 0 || pad > 64 {
+    if pad == 0 || usize::from(pad) > PADS {
         return 0;
     }
     match groups.get(pad as usize - 1) {
@@ -49,7 +64,7 @@ pub fn group_of(groups: &[u8], pad: u8) -> u8
     }
 }
 
-// Writes the value into the first `count` entries.
+/// Writes the value into the first `count` entries.
 pub fn fill_front<T: Copy>(table: &mut [T], count: usize, value: T)
     requires { count ≤ length table.old }
     ensures { table.new ≡ replicate count value ++ drop count table.old }

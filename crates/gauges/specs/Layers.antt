@@ -1,9 +1,9 @@
 -- The two layers: weighting and fence. Assumes nothing.
 use Rattle.std.specs.Prelude.{ℕ, zero, suc, Bool, ◌&&◌, ◌||◌, List, take, None, Option, nat_le, nat_lt}
 use Rattle.std.specs.List.{list_any}
-use Rattle.board.specs.Refusals.{refuse}
-use Rattle.board.specs.declared.refusal.Refusal.{Refusal}
-use Rattle.board.specs.declared.refusal.Refusal.TheVariants as refusal
+use Rattle.board.specs.Outcomes.{refuse}
+use Rattle.gauges.specs.declared.refusal.Refusal.{Refusal}
+use Rattle.gauges.specs.declared.refusal.Refusal.TheVariants as refusal
 use Rattle.lengths.specs.Kinds.{Kind}
 use Rattle.gauges.specs.Meanings.{Crossing, Ruling}
 use Rattle.gauges.specs.declared.rectangle.Rectangle.{Rectangle}
@@ -21,7 +21,7 @@ abbrev pub weighted_crossing : {L : Type 0} → ℕ → Crossing L → Crossing 
 weighted_crossing k g = record { barred = g.barred; carried = λ s a. times k (g.carried s) a }
 
 -- a step is its k-fold sum
-abbrev pub weighted_ruling : {L : Type 0} → Kind L → ℕ → Ruling L → Ruling L
+abbrev pub weighted_ruling : {L R : Type 0} → Kind L R → ℕ → Ruling L → Ruling L
 weighted_ruling kind k r = record {
   barred = r.barred;
   span = λ s. times k (λ a. r.sum a (r.span s)) kind.zero;
@@ -30,7 +30,9 @@ weighted_ruling kind k r = record {
 
 -- a point in a rectangle, ends included
 abbrev pub inside : Rectangle → Point → Bool
-inside f p = (nat_le f.first_row p.row && nat_le p.row f.last_row) && (nat_le f.first_column p.column && nat_le p.column f.last_column)
+inside f p =
+    (nat_le f.first_row p.row && nat_le p.row f.last_row)
+    && (nat_le f.first_column p.column && nat_le p.column f.last_column)
 
 -- the rectangles that were added
 abbrev pub added : Rectangles → List Rectangle
@@ -56,8 +58,11 @@ weighting_refusal k = refuse (nat_lt k 1 || nat_lt 16 k) refusal.Setting None
 
 -- a first above its last, or a figure above 255
 abbrev pub bad_rectangle : Rectangle → Bool
-bad_rectangle f = (nat_lt f.last_row f.first_row || nat_lt f.last_column f.first_column) || (nat_lt 255 f.last_row || nat_lt 255 f.last_column)
+bad_rectangle f =
+    (nat_lt f.last_row f.first_row || nat_lt f.last_column f.first_column)
+    || (nat_lt 255 f.last_row || nat_lt 255 f.last_column)
 
 -- a rectangle more, of which there are at most 16
 abbrev pub rectangle_refusal : Rectangles → Rectangle → Option Refusal
-rectangle_refusal fs f = refuse (bad_rectangle f) refusal.Setting (refuse (nat_le 16 fs.count) refusal.Fence None)
+rectangle_refusal fs f =
+    refuse (bad_rectangle f) refusal.Setting (refuse (nat_le 16 fs.count) refusal.Fence None)

@@ -2,7 +2,7 @@
 use Rattle.std.specs.Prelude.{◌≡◌, ℕ, true, refl}
 use Rattle.std.proofs.Common.{ap, subst, arith}
 use Rattle.std.proofs.lemmas.Bool.Decides.{nat_tests}
-use Rattle.lengths.specs.Kinds.{Kind, Rows, KindLaws}
+use Rattle.lengths.specs.Kinds.{Kind, KindLaws}
 use Rattle.lengths.specs.Wholes.{whole, whole_kind}
 use Rattle.lengths.specs.Counteds.{counted, counted_kind}
 use Rattle.lengths.specs.WholeLaws as wholes
@@ -14,7 +14,8 @@ use Rattle.gauges.specs.Rulers.{whole_ruling, counted_chessboard}
 use Rattle.gauges.specs.declared.step.Step.{Step}
 
 -- zero is least and added to a length leaves it, so no sum is shorter than its parts
-pub ruler_lawful : {L R : Type 0} {kind : Kind L} {rows : Rows L R} {r : Ruling L} → KindLaws kind rows → RulerLaws kind r → Lawful kind (adding r)
+pub ruler_lawful : {L R : Type 0} {kind : Kind L R} {r : Ruling L} → KindLaws kind →
+    RulerLaws kind r → Lawful kind (adding r)
 ruler_lawful {kind = kind} {r = r} k laws = record {
   grows = λ s _ _ a.
       subst
@@ -28,7 +29,8 @@ ruler_lawful {kind = kind} {r = r} k laws = record {
 pub by_adding : {L : Type 0} (r : Ruling L) → ByAdding r (adding r)
 by_adding r = record { barred = λ _ _. refl; carried = λ _ _ _ _. refl }
 
-pub whole_ruler : (units : Step → ℕ) → ((s : Step) → Genuine s → units (reversed s) ≡ units s) → RulerLaws whole_kind (whole_ruling units)
+pub whole_ruler : (units : Step → ℕ) → ((s : Step) → Genuine s → units (reversed s) ≡ units s) →
+    RulerLaws whole_kind (whole_ruling units)
 whole_ruler units alike = record {
   assoc = wholes.sum_assoc;
   comm = λ a b. same_units _ _ (omega arith);
@@ -38,7 +40,8 @@ whole_ruler units alike = record {
   span_back = λ s genuine _. ap whole (alike s genuine);
 }
 
-pub whole_gauge : (units : Step → ℕ) → ((s : Step) → Genuine s → units (reversed s) ≡ units s) → Lawful whole_kind (adding (whole_ruling units))
+pub whole_gauge : (units : Step → ℕ) → ((s : Step) → Genuine s → units (reversed s) ≡ units s) →
+    Lawful whole_kind (adding (whole_ruling units))
 whole_gauge units alike = ruler_lawful whole_laws (whole_ruler units alike)
 
 pub counted_ruler : RulerLaws counted_kind counted_chessboard

@@ -1,8 +1,8 @@
 -- The four rulers. Assumes nothing.
 use Rattle.std.specs.Prelude.{ℕ, zero, suc, ◌+◌, ◌*◌, ◌^◌, ◌≤◌, false, cond, None, Option, nat_le, nat_lt}
-use Rattle.board.specs.Refusals.{refuse}
-use Rattle.board.specs.declared.refusal.Refusal.{Refusal}
-use Rattle.board.specs.declared.refusal.Refusal.TheVariants as refusal
+use Rattle.board.specs.Outcomes.{refuse}
+use Rattle.gauges.specs.declared.refusal.Refusal.{Refusal}
+use Rattle.gauges.specs.declared.refusal.Refusal.TheVariants as refusal
 use Rattle.lengths.specs.Wholes.{whole, whole_sum}
 use Rattle.lengths.specs.Counteds.{counted, counted_sum}
 use Rattle.lengths.specs.declared.whole.Whole.{Whole}
@@ -17,6 +17,9 @@ whole_ruling units = record { barred = λ _. false; span = λ s. whole (units s)
 
 abbrev pub chessboard_units : Step → ℕ
 chessboard_units s = rise s + 1
+
+abbrev pub chessboard : Ruling Whole
+chessboard = whole_ruling chessboard_units
 
 abbrev pub three_four_units : ℕ → Step → ℕ
 three_four_units w s = w * rise s + cond (edge s) 3 4
@@ -47,4 +50,5 @@ abbrev pub euclid_units : Step → ℕ
 euclid_units s = root (euclid_square s)
 
 abbrev pub counted_chessboard : Ruling Counted
-counted_chessboard = record { barred = λ _. false; span = λ s. counted (rise s + 1) 1; sum = counted_sum }
+counted_chessboard =
+    record { barred = λ _. false; span = λ s. counted (rise s + 1) 1; sum = counted_sum }

@@ -4,11 +4,10 @@ ghost use Rattle.gauges.specs.Rulers.{Root, chessboard_units, euclid_square, euc
 ghost use Rattle.gauges.specs.Steps.{edge, rise};
 ghost use Rattle.gauges.specs.Reverses.{rise_back, edge_back};
 
-use crate::{Formula, Step, ThreeFour};
-use board::Refusal;
+use crate::{Formula, Refusal, Step, ThreeFour};
 
 impl Step {
-    // The difference of the heights.
+    /// The difference of the heights, from 0 to 65,535.
     pub fn rise(self) -> u64
         ensures value { result ≡ rise self }
         ensures bound { result < 65536 }
@@ -16,7 +15,7 @@ impl Step {
         u64::from(self.from.height.abs_diff(self.to.height))
     }
 
-    // One number on an edge step, which stays in its row or its column, and another on a corner step.
+    /// One number on an edge step, which stays in its row or its column, and another on a corner step.
     pub fn edge_or_corner(self, on_edge: u64, on_corner: u64) -> u64
         ensures { result ≡ cond (edge self) on_edge on_corner }
     {
@@ -28,7 +27,7 @@ impl Step {
     }
 }
 
-// A step is one more than the difference of its heights.
+/// A step is one more than the difference of its heights.
 #[derive(Clone, Copy)]
 pub struct Chessboard;
 
@@ -43,9 +42,12 @@ impl Formula for Chessboard {
 }
 
 impl ThreeFour {
-    // The formula of a weight from 0 to 64.
+    /// The formula of a weight from 0 to 64. A greater one is refused with 9.
     pub fn new(weight: u16) -> Result<ThreeFour, Refusal>
-        ensures { MatchResult result (λ f. (three_four_refusal weight ≡ None) × (f.weight ≡ weight)) (λ e. three_four_refusal weight ≡ Some e) }
+        ensures { let refused = three_four_refusal weight in
+            MatchResult result
+            (λ f. (refused ≡ None) × (f.weight ≡ weight))
+            (λ e. refused ≡ Some e) }
     {
         if weight > 64 {
             return Err(Refusal::Setting);
@@ -67,14 +69,16 @@ impl Formula for ThreeFour {
 // From this rise on the width of a cell adds less than a 256th to the length.
 const STEEP: u64 = 256;
 
-// The length in 256ths of a cell, rounded down.
+/// The length in 256ths of a cell, rounded down.
 #[derive(Clone, Copy)]
 pub struct Euclid;
 
 // The root of a square, rounded down, by halving the width in which it lies from `low` on. `isqrt`, which begins with a
 // width of 2^32, takes four times as long.
 fn root_within(low: u64, width: u64, square: u64) -> u64
-    requires { (low * low ≤ square) × ((square < (low + width) * (low + width)) × (low + width < 2 ^ 32)) }
+    requires low { low * low ≤ square }
+    requires high { square < (low + width) * (low + width) }
+    requires small { low + width < 2 ^ 32 }
     ensures { Root square result }
 {
     let mut root = low;
@@ -93,7 +97,7 @@ fn root_within(low: u64, width: u64, square: u64) -> u64
 }
 
 impl Euclid {
-    // The greatest number whose square is at most that of the step's length in 256ths of a cell.
+    /// The greatest number whose square is at most that of the step's length in 256ths of a cell.
     pub fn root_of(self, step: Step) -> u64
         ensures greatest { Root (euclid_square step) result }
         ensures value { result ≡ euclid_units step }

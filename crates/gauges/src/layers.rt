@@ -1,14 +1,13 @@
 // The two layers: either over any gauge is a gauge, and over any ruler a ruler.
 ghost use Rattle.std.specs.Prelude.{◌≡◌, ◌<◌, [], ◌∷◌, ◌++◌, Some, None, MatchResult, OnErr};
-ghost use Rattle.board.specs.Refusals.{after, answered};
+ghost use Rattle.board.specs.Outcomes.{after, answering};
 ghost use Rattle.gauges.specs.Layers.{added, bad_rectangle, fenced, fenced_crossing, fenced_ruling, inside, rectangle_refusal, touches, weighted_crossing, weighted_ruling, weighting_refusal};
 ghost use Rattle.gauges.specs.LayerLaw.{weighted_lawful, weighted_ruled, weighted_adds, fenced_lawful, fenced_ruled, fenced_adds};
 
-use crate::{Gauge, Point, Rectangle, Rectangles, Ruler, Step, Weighting};
-use board::Refusal;
+use crate::{Gauge, Point, Rectangle, Rectangles, Refusal, Ruler, Step, Weighting};
 use lengths::Length;
 
-// A gauge that a layer could not be laid over, and why.
+/// A gauge that a layer could not be laid over, and why.
 #[derive(Drop)]
 pub struct SentBack<G> {
     pub gauge: G,
@@ -16,9 +15,12 @@ pub struct SentBack<G> {
 }
 
 impl<G> Weighting<G> {
-    // Lays a weighting over a gauge; one out of range is refused and gives the gauge back.
+    /// Lays a weighting over a gauge, by a factor from 1 to 16; another is refused with 9 and gives the gauge back.
     pub fn new(gauge: G, factor: u16) -> Result<Weighting<G>, SentBack<G>>
-        ensures { MatchResult result (λ w. (weighting_refusal factor ≡ None) × (w.gauge ≡ gauge) × (w.factor ≡ factor)) (λ e. (weighting_refusal factor ≡ Some e.refusal) × (e.gauge ≡ gauge)) }
+        ensures { let refused = weighting_refusal factor in
+            MatchResult result
+            (λ w. (refused ≡ None) × (w.gauge ≡ gauge) × (w.factor ≡ factor))
+            (λ e. (refused ≡ Some e.refusal) × (e.gauge ≡ gauge)) }
     {
         if factor == 0 || factor > 16 {
             return Err(SentBack {
@@ -33,9 +35,10 @@ impl<G> Weighting<G> {
 impl<G: Gauge> Gauge for Weighting<G> {
     type Length = G::Length;
 
-    ghost crossing = { λ w. weighted_crossing w.factor (G.Gauge.crossing w.gauge) };
+    ghost crossing = { λ w. weighted_crossing w.factor (G.crossing w.gauge) };
 
-    ghost lawful = { λ w. weighted_lawful G.Length.Length.lawful w.factor (G.Gauge.crossing w.gauge) (G.Gauge.lawful w.gauge) };
+    ghost lawful = { λ w. weighted_lawful G.Length.Length.lawful w.factor (G.crossing w.gauge)
+        (G.Gauge.lawful w.gauge) };
 
     fn carry(&self, step: Step, length: G::Length) -> Option<G::Length> {
         // With `try_fold` the proof did not close, nor with `fold` in `span`.
@@ -48,11 +51,13 @@ impl<G: Gauge> Gauge for Weighting<G> {
 }
 
 impl<R: Ruler> Ruler for Weighting<R> {
-    ghost ruling = { λ w. weighted_ruling R.Length.kind w.factor (R.Ruler.ruling w.gauge) };
+    ghost ruling = { λ w. weighted_ruling R.Length.kind w.factor (R.ruling w.gauge) };
 
-    ghost ruled = { λ w. weighted_ruled R.Length.kind w.factor (R.Ruler.ruling w.gauge) (R.Ruler.ruled w.gauge) };
+    ghost ruled = { λ w. weighted_ruled R.Length.kind w.factor (R.ruling w.gauge)
+        (R.Ruler.ruled w.gauge) };
 
-    ghost adds = { λ w. weighted_adds R.Length.kind w.factor (R.Ruler.ruling w.gauge) (R.Gauge.crossing w.gauge) (R.Ruler.ruled w.gauge) (R.Ruler.adds w.gauge) };
+    ghost adds = { λ w. weighted_adds R.Length.kind w.factor (R.ruling w.gauge)
+        (R.crossing w.gauge) (R.Ruler.ruled w.gauge) (R.Ruler.adds w.gauge) };
 
     fn span(&self, step: Step) -> Option<R::Length> {
         let own = self.gauge.span(step)?;
@@ -94,6 +99,7 @@ impl Rectangle {
 }
 
 impl Rectangles {
+    /// No rectangle yet.
     pub fn new() -> Rectangles
         ensures { added result ≡ [] }
     {
@@ -104,7 +110,10 @@ impl Rectangles {
     }
 
     fn may_add(&self, rectangle: Rectangle) -> Result<(), Refusal>
-        ensures { MatchResult result (λ _. (rectangle_refusal self.now rectangle ≡ None) × (self.now.count < 16)) (λ e. rectangle_refusal self.now rectangle ≡ Some e) }
+        ensures { let refused = rectangle_refusal self.now rectangle in
+            MatchResult result
+            (λ _. (refused ≡ None) × (self.now.count < 16))
+            (λ e. refused ≡ Some e) }
     {
         if rectangle.is_faulty() {
             return Err(Refusal::Setting);
@@ -115,10 +124,12 @@ impl Rectangles {
         Ok(())
     }
 
-    // One rectangle more; one that is refused changes nothing.
+    /// One rectangle more, of at most 16. Refused, with 9 where a first is above its last or a figure above 255, and with 10 where
+    /// there are 16, it changes nothing.
     pub fn add(&mut self, rectangle: Rectangle) -> Result<(), Refusal>
-        ensures answer { result ≡ answered (rectangle_refusal self.old rectangle) }
-        ensures list { added self.new ≡ after (rectangle_refusal self.old rectangle) (added self.old) (added self.old ++ (rectangle ∷ [])) }
+        ensures answer { result ≡ answering (rectangle_refusal self.old rectangle) tt }
+        ensures list { added self.new ≡ after (rectangle_refusal self.old rectangle) (added self.old)
+            (added self.old ++ (rectangle ∷ [])) }
         ensures refused { OnErr result (self.new ≡ self.old) }
     {
         self.may_add(rectangle)?;
@@ -135,7 +146,7 @@ impl Rectangles {
     }
 }
 
-// Bars each step with an end in one of its rectangles, which do not change any more.
+/// Bars each step with an end in one of its rectangles, which do not change any more.
 #[derive(Drop)]
 pub struct Fence<G> {
     gauge: G,
@@ -143,6 +154,7 @@ pub struct Fence<G> {
 }
 
 impl<G> Fence<G> {
+    /// Lays a fence of these rectangles over a gauge.
     pub fn new(gauge: G, rectangles: Rectangles) -> Fence<G>
         ensures { (result.gauge ≡ gauge) × (result.rectangles ≡ rectangles) }
     {
@@ -153,9 +165,10 @@ impl<G> Fence<G> {
 impl<G: Gauge> Gauge for Fence<G> {
     type Length = G::Length;
 
-    ghost crossing = { λ f. fenced_crossing (added f.rectangles) (G.Gauge.crossing f.gauge) };
+    ghost crossing = { λ f. fenced_crossing (added f.rectangles) (G.crossing f.gauge) };
 
-    ghost lawful = { λ f. fenced_lawful (added f.rectangles) (G.Gauge.crossing f.gauge) (G.Gauge.lawful f.gauge) };
+    ghost lawful = { λ f. fenced_lawful (added f.rectangles) (G.crossing f.gauge)
+        (G.Gauge.lawful f.gauge) };
 
     fn carry(&self, step: Step, length: G::Length) -> Option<G::Length> {
         if self.rectangles.bar(step) {
@@ -166,11 +179,13 @@ impl<G: Gauge> Gauge for Fence<G> {
 }
 
 impl<R: Ruler> Ruler for Fence<R> {
-    ghost ruling = { λ f. fenced_ruling (added f.rectangles) (R.Ruler.ruling f.gauge) };
+    ghost ruling = { λ f. fenced_ruling (added f.rectangles) (R.ruling f.gauge) };
 
-    ghost ruled = { λ f. fenced_ruled (added f.rectangles) (R.Ruler.ruling f.gauge) (R.Ruler.ruled f.gauge) };
+    ghost ruled = { λ f. fenced_ruled (added f.rectangles) (R.ruling f.gauge)
+        (R.Ruler.ruled f.gauge) };
 
-    ghost adds = { λ f. fenced_adds (added f.rectangles) (R.Ruler.ruling f.gauge) (R.Gauge.crossing f.gauge) (R.Ruler.adds f.gauge) };
+    ghost adds = { λ f. fenced_adds (added f.rectangles) (R.ruling f.gauge)
+        (R.crossing f.gauge) (R.Ruler.adds f.gauge) };
 
     fn span(&self, step: Step) -> Option<R::Length> {
         if self.rectangles.bar(step) {

@@ -10,26 +10,38 @@ ghost use Rattle.gauges.specs.RulerLaw.{whole_gauge, whole_ruler, by_adding, cou
 use crate::{Chessboard, Gauge, Ruler, Step};
 use lengths::{Counted, Length, Whole};
 
-// A formula gives each step its length in whole units.
+/// A formula gives each step its length in whole units.
 pub trait Formula {
     ghost units: { Self → TheStep → ℕ };
 
+    /// The length of a step in whole units.
     fn units_of(&self, step: Step) -> u64
         ensures { result ≡ units self.now step };
 
     ghost alike: { (f : Self) (s : TheStep) → Genuine s → units f (reversed s) ≡ units f s };
 }
 
-// The ruler that adds what a formula gives.
+/// The ruler that adds what a formula gives. The formula stays as it was given: what one group was measured by, the other is too.
 #[derive(Clone, Copy)]
-pub struct WholeRuler<F>(pub F);
+pub struct WholeRuler<F> {
+    formula: F,
+}
+
+impl<F> WholeRuler<F> {
+    /// The ruler of this formula.
+    pub fn new(formula: F) -> WholeRuler<F>
+        ensures { result.formula ≡ formula }
+    {
+        WholeRuler { formula }
+    }
+}
 
 impl<F: Formula> Gauge for WholeRuler<F> {
     type Length = Whole;
 
-    ghost crossing = { λ g. adding (whole_ruling (F.Formula.units g.0)) };
+    ghost crossing = { λ g. adding (whole_ruling (F.Formula.units g.formula)) };
 
-    ghost lawful = { λ x. whole_gauge (F.Formula.units x.0) (F.Formula.alike x.0) };
+    ghost lawful = { λ x. whole_gauge (F.Formula.units x.formula) (F.Formula.alike x.formula) };
 
     fn carry(&self, step: Step, length: Whole) -> Option<Whole> {
         self.span(step).map(|own| self.sum(length, own))
@@ -37,14 +49,14 @@ impl<F: Formula> Gauge for WholeRuler<F> {
 }
 
 impl<F: Formula> Ruler for WholeRuler<F> {
-    ghost ruling = { λ g. whole_ruling (F.Formula.units g.0) };
+    ghost ruling = { λ g. whole_ruling (F.Formula.units g.formula) };
 
-    ghost ruled = { λ x. whole_ruler (F.Formula.units x.0) (F.Formula.alike x.0) };
+    ghost ruled = { λ x. whole_ruler (F.Formula.units x.formula) (F.Formula.alike x.formula) };
 
-    ghost adds = { λ x. by_adding (whole_ruling (F.Formula.units x.0)) };
+    ghost adds = { λ x. by_adding (whole_ruling (F.Formula.units x.formula)) };
 
     fn span(&self, step: Step) -> Option<Whole> {
-        Some(Whole::new(self.0.units_of(step)))
+        Some(Whole::new(self.formula.units_of(step)))
     }
 
     fn sum(&self, a: Whole, b: Whole) -> Whole {
@@ -52,12 +64,12 @@ impl<F: Formula> Ruler for WholeRuler<F> {
     }
 }
 
-// Every lawful ruler over a kind of length serves as a lawful gauge by adding, a client's own too.
+/// Every lawful ruler over a kind of length serves as a lawful gauge by adding, a client's own too.
 pub fn rulers_serve_as_gauges<K: Length>()
-    ensures { (r : Ruling K) → RulerLaws K.Length.kind r → Lawful K.Length.kind (adding r) }
+    ensures { (r : Ruling K) → RulerLaws K.kind r → Lawful K.kind (adding r) }
 {}
 
-// A step is as long as by chessboard, and counts as one step.
+/// A step is as long as by chessboard, and counts as one step.
 #[derive(Clone, Copy)]
 pub struct CountedChessboard;
 

@@ -1,6 +1,6 @@
 // A step from one cell of a plate to a neighbour.
 
-// A cell by its row and column, with its height.
+/// A cell by its row and column, with its height, from 0 to 65,535. On a plate rows and columns are below 256.
 #[derive(Clone, Copy, Debug, PartialEq, Eq)]
 pub struct Point {
     pub row: u16,
@@ -8,6 +8,7 @@ pub struct Point {
     pub height: u16,
 }
 
+/// From one cell to another; on a plate they are neighbours.
 #[derive(Clone, Copy, Debug, PartialEq, Eq)]
 pub struct Step {
     pub from: Point,

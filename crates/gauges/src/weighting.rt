@@ -1,7 +1,7 @@
 // The weighting layer.
 ghost use Rattle.std.specs.Prelude.{◌≤◌};
 
-// Carries across each step `factor` times, from 1 to 16.
+/// Carries across each step `factor` times, from 1 to 16.
 #[derive(Drop)]
 pub struct Weighting<G> {
     pub(crate) gauge: G,

@@ -1,11 +1,11 @@
 -- Whole lengths keep the laws of a kind, and their sums are associative. Assumes nothing.
-use Rattle.std.specs.Prelude.{◌≡◌, ◌+◌, ◌-◌, ◌^◌, ◌<◌, min}
+use Rattle.std.specs.Prelude.{◌≡◌, ◌^◌, ◌<◌}
 use Rattle.std.proofs.Common.{arith}
 use mathlib.Core.HLevel.{is_prop→PathP}
 use Rattle.std.proofs.Math.Bridge.{le_prop}
 use Rattle.std.proofs.lemmas.Bool.Decides.{nat_tests}
 use Rattle.lengths.specs.Kinds.{KindLaws}
-use Rattle.lengths.specs.Wholes.{whole, whole_kind, whole_rows, whole_sum}
+use Rattle.lengths.specs.Wholes.{whole, whole_kind, whole_sum}
 use Rattle.lengths.specs.declared.whole.Whole.{Whole}
 
 -- a length is its units: that they fit has one proof at most
@@ -15,7 +15,7 @@ same_units a b e = λ i. record {
   fits = is_prop→PathP (λ j. e j < 2 ^ 64) (λ j. le_prop) a.fits b.fits i;
 }
 
-pub whole_laws : KindLaws whole_kind whole_rows
+pub whole_laws : KindLaws whole_kind
 whole_laws = record {
   total = λ a b. grind (arith, nat_tests);
   transitive = λ a b c p q. grind (arith, nat_tests);
@@ -23,9 +23,6 @@ whole_laws = record {
   least = λ a. grind (arith, nat_tests);
   same = λ a. same_units (whole a.units) a (omega (arith, a.fits));
 }
-
-pub sum_units : (a b : Whole) → (whole_sum a b).units ≡ min (a.units + b.units) (2 ^ 64 - 1)
-sum_units a b = omega arith
 
 pub sum_assoc : (a b c : Whole) → whole_sum (whole_sum a b) c ≡ whole_sum a (whole_sum b c)
 sum_assoc a b c = same_units _ _ (omega arith)

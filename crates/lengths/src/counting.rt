@@ -1,12 +1,12 @@
 // Counted lengths as a kind.
 ghost use Rattle.std.specs.Prelude.{◌≡◌};
-ghost use Rattle.lengths.specs.Counteds.{counted, counted_kind, counted_rows, counted_sum};
+ghost use Rattle.lengths.specs.Counteds.{counted, counted_kind, counted_sum};
 ghost use Rattle.lengths.specs.CountedLaws.{counted_laws};
 
 use crate::{Counted, CountedRow, Length};
 
 impl Counted {
-    // Steps beyond the units are cut.
+    /// So many units, from 0 to 2^64 − 1, in so many steps; steps beyond the units are cut.
     pub fn new(units: u64, steps: u64) -> Counted
         ensures { result ≡ counted units steps }
     {
@@ -16,7 +16,7 @@ impl Counted {
         }
     }
 
-    // The sum of both parts; both become the greatest where the units would be beyond it.
+    /// The sum of both parts; both become 2^64 − 1 where the units would be beyond that.
     pub fn saturating_add(self, other: Counted) -> Counted
         ensures { result ≡ counted_sum self other }
     {
@@ -31,8 +31,6 @@ impl Length for Counted {
     type Row = CountedRow;
 
     ghost kind = { counted_kind };
-
-    ghost rows = { counted_rows };
 
     ghost lawful = { counted_laws };
 

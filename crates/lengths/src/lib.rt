@@ -2,7 +2,7 @@
 #![tactic(auto)]
 
 ghost use Rattle.std.specs.Prelude.{◌≡◌};
-ghost use Rattle.lengths.specs.Kinds.{Kind, KindLaws, Rows};
+ghost use Rattle.lengths.specs.Kinds.{Kind, KindLaws};
 
 pub mod counted;
 pub mod counted_row;
@@ -14,25 +14,27 @@ pub use counted::Counted;
 pub use counted_row::CountedRow;
 pub use whole::Whole;
 
-// A kind of length. A row is a plain value under no condition: every row is read as some length.
+/// A kind of length. A row is a plain value under no condition: every row is read as some length.
 pub trait Length: Copy {
     type Row: Copy;
 
-    ghost kind: { Kind Self };
+    ghost kind: { Kind Self Self.Row };
 
-    ghost rows: { Rows Self Self.Row };
-
+    /// The least length.
     fn zero() -> Self
         ensures { result ≡ kind.zero };
 
+    /// Whether it is at most as long as the other.
     fn at_most(self, other: Self) -> bool
         ensures { result ≡ kind.le self other };
 
+    /// The row in which tables hold it.
     fn encode(self) -> Self::Row
-        ensures { result ≡ rows.encode self };
+        ensures { result ≡ kind.encode self };
 
+    /// The length that a row is read as, any row.
     fn decode(row: Self::Row) -> Self
-        ensures { result ≡ rows.decode row };
+        ensures { result ≡ kind.decode row };
 
-    ghost lawful: { KindLaws kind rows };
+    ghost lawful: { KindLaws kind };
 }

@@ -1,18 +1,19 @@
 // Whole lengths as a kind.
 ghost use Rattle.std.specs.Prelude.{◌≡◌};
-ghost use Rattle.lengths.specs.Wholes.{whole, whole_kind, whole_rows, whole_sum};
+ghost use Rattle.lengths.specs.Wholes.{whole, whole_kind, whole_sum};
 ghost use Rattle.lengths.specs.WholeLaws.{whole_laws};
 
 use crate::{Length, Whole};
 
 impl Whole {
+    /// The length of so many units.
     pub fn new(units: u64) -> Whole
         ensures { result ≡ whole units }
     {
         Whole { units }
     }
 
-    // The sum, or the longest length where the sum is beyond it.
+    /// The sum, or 2^64 − 1 units where the sum is beyond that.
     pub fn saturating_add(self, other: Whole) -> Whole
         ensures { result ≡ whole_sum self other }
     {
@@ -24,8 +25,6 @@ impl Length for Whole {
     type Row = u64;
 
     ghost kind = { whole_kind };
-
-    ghost rows = { whole_rows };
 
     ghost lawful = { whole_laws };
 

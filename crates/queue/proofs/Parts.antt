@@ -1,8 +1,8 @@
 -- A queue's part of its slice before and after sifting. Assumes nothing.
 use Rattle.std.proofs.Common.{◌≡◌, ℕ, ◌+◌, ◌<◌, ◌≤◌, Bool, true, ◌≢◌, List, [], ◌∷◌, ◌++◌, length, get_or, take, set, sym, ap, ◌∙◌, subst, arith}
-use Rattle.std.specs.List.{AllByRecursion}
+use Rattle.std.specs.List.{All}
 use Rattle.std.specs.List.Sorted.{IsPermutation}
-use Rattle.std.proofs.ByRecursion.{All-from_get_or}
+use Rattle.std.proofs.lemmas.List.Elements.{All-from_get_or}
 use Rattle.std.proofs.lemmas.List.{get_or-take, length-take-le, take_more, set_at}
 use Rattle.std.proofs.lemmas.List.Sorted.{IsPermutation-refl, IsPermutation-cons, IsPermutation-sym, IsPermutation-to_front, IsPermutation-trans}
 use Rattle.queue.specs.Orders.{OrderLaws}
@@ -54,7 +54,7 @@ module _ {E : Type 0} (xs ys : List E) (n m : ℕ) (first : E) (one : n ≡ m + 
       subst (λ l. IsPermutation (take n xs) (first ∷ l)) (sym empty)
       (subst (λ l. IsPermutation l (first ∷ [])) (sym (ends first at ∙ ap (λ l. l ++ first ∷ []) empty)) (IsPermutation-refl (first ∷ [])))
 
-  pub least_of : {le : E → E → Bool} → OrderLaws le → Heap le (take n xs) → AllByRecursion (λ y. le first y ≡ true) (take n xs)
+  pub least_of : {le : E → E → Bool} → OrderLaws le → Heap le (take n xs) → All (λ y. le first y ≡ true) (take n xs)
   least_of {le} laws heap =
       All-from_get_or (λ y. le first y ≡ true) (take n xs) first
       (λ i lt. let least = first_least laws (take n xs) heap i first lt in grind (arith, get_or-take))

@@ -3,17 +3,18 @@ use Rattle.std.specs.Prelude.{◌≡◌, true, ◌⊎◌}
 use Rattle.std.proofs.Common.{inl, inr, ⊎_elim, arith}
 use Rattle.std.proofs.lemmas.Bool.{cases_Bool, and_parts}
 use Rattle.std.proofs.lemmas.Bool.Decides.{nat_tests}
-use Rattle.lengths.specs.Kinds.{Kind, Rows, KindLaws}
+use Rattle.lengths.specs.Kinds.{Kind, KindLaws}
 use Rattle.queue.specs.Orders.{OrderLaws, offer_le}
 use Rattle.queue.specs.declared.offer.Offer.{Offer}
 
-module _ {L R : Type 0} {kind : Kind L} {rows : Rows L R} (laws : KindLaws kind rows) where
-  total : (a b : Offer R) → (offer_le kind rows a b ≡ true) ⊎ (offer_le kind rows b a ≡ true)
+module _ {L R : Type 0} {kind : Kind L R} (laws : KindLaws kind) where
+  total : (a b : Offer R) → (offer_le kind a b ≡ true) ⊎ (offer_le kind b a ≡ true)
   total a b =
-      let either = laws.total (rows.decode a.length) (rows.decode b.length) in
-      ⊎_elim (λ is. inl is) (λ isnt. inr (grind (arith, nat_tests))) (cases_Bool (offer_le kind rows a b))
+      let either = laws.total (kind.decode a.length) (kind.decode b.length) in
+      ⊎_elim (λ is. inl is) (λ isnt. inr (grind (arith, nat_tests))) (cases_Bool (offer_le kind a b))
 
-  transitive : (a b c : Offer R) → offer_le kind rows a b ≡ true → offer_le kind rows b c ≡ true → offer_le kind rows a c ≡ true
+  transitive : (a b c : Offer R) → offer_le kind a b ≡ true → offer_le kind b c ≡ true →
+      offer_le kind a c ≡ true
   transitive a b c p q =
       let ac = laws.transitive _ _ _ (and_parts _ _ p).0 (and_parts _ _ q).0 in
       ⊎_elim
@@ -22,7 +23,7 @@ module _ {L R : Type 0} {kind : Kind L} {rows : Rows L R} (laws : KindLaws kind 
       let cb = laws.transitive _ _ _ back (and_parts _ _ p).0 in
       grind (arith, nat_tests))
       (λ none. grind (arith, nat_tests))
-      (cases_Bool (kind.le (rows.decode c.length) (rows.decode a.length)))
+      (cases_Bool (kind.le (kind.decode c.length) (kind.decode a.length)))
 
-  pub offer_laws : OrderLaws (offer_le kind rows)
+  pub offer_laws : OrderLaws (offer_le kind)
   offer_laws = record { total = total; transitive = transitive }

@@ -5,12 +5,12 @@ ghost use Rattle.std.specs.List.Sorted.{IsPermutation};
 
 use crate::Order;
 
-// Fills a hole with an entry that comes after none of its children, once every greater ancestor has moved down.
+/// Fills a hole with an entry that comes after none of its children, once every greater ancestor has moved down.
 pub fn sift_up<O: Order>(entries: &mut [O::Entry], at: usize, moving: O::Entry)
     requires within { at < length entries.old }
-    requires holed { Holed O.Order.le entries.old at }
-    requires below { BelowAll O.Order.le entries.old at moving }
-    ensures ordered { Heap O.Order.le entries.new }
+    requires holed { Holed O.le entries.old at }
+    requires below { BelowAll O.le entries.old at moving }
+    ensures ordered { Heap O.le entries.new }
     ensures shuffled { IsPermutation (slice_set entries.old at moving) entries.new }
 {
     // From child to parent, and below from parent to child: no iterator goes so.
@@ -31,20 +31,24 @@ pub fn sift_up<O: Order>(entries: &mut [O::Entry], at: usize, moving: O::Entry)
 fn lesser<O: Order>(entries: &[O::Entry], left: usize) -> usize
     requires { left + 1 < length entries.now }
     ensures beside { (left ≤ result) × (result ≤ left + 1) }
-    ensures least { (d : O.Entry) → (O.Order.le (slice_index_or entries.now result d) (slice_index_or entries.now left d) ≡ true) × (O.Order.le (slice_index_or entries.now result d) (slice_index_or entries.now (left + 1) d) ≡ true) }
+    ensures at_most_left { (d : O.Entry) → O.le (slice_index_or entries.now result d)
+        (slice_index_or entries.now left d) ≡ true }
+    ensures at_most_right { (d : O.Entry) → O.le (slice_index_or entries.now result d)
+        (slice_index_or entries.now (left + 1) d) ≡ true }
 {
     let right = left + 1;
     right - O::at_most(entries[left], entries[right]) as usize
 }
 
-// Moves the hole at the front down to a place without children, each time to the lesser child, and says where.
+/// Moves the hole at the front down to a place without children, each time to the lesser child, and says where.
 pub fn sift_down<O: Order>(entries: &mut [O::Entry]) -> usize
     requires some { 0 < length entries.old }
-    requires holed { Holed O.Order.le entries.old 0 }
+    requires holed { Holed O.le entries.old 0 }
     ensures within { result < length entries.new }
     ensures leaf { length entries.new ≤ 2 * result + 1 }
-    ensures holed { Holed O.Order.le entries.new result }
-    ensures shuffled { (x : O.Entry) → IsPermutation (slice_set entries.old 0 x) (slice_set entries.new result x) }
+    ensures holed { Holed O.le entries.new result }
+    ensures shuffled { (x : O.Entry) →
+        IsPermutation (slice_set entries.old 0 x) (slice_set entries.new result x) }
 {
     let len = entries.len();
     // Entries before this place have two children.
@@ -63,12 +67,12 @@ pub fn sift_down<O: Order>(entries: &mut [O::Entry]) -> usize
     hole
 }
 
-// Puts an entry in the place of the first. The hole goes all the way down and the entry up from there: it comes from the
-// end of a heap, so that it seldom rises far, and each level down costs one comparison in place of two.
+/// Puts an entry in the place of the first. The hole goes all the way down and the entry up from there: it comes from the
+/// end of a heap, so that it seldom rises far, and each level down costs one comparison in place of two.
 pub fn replace_first<O: Order>(entries: &mut [O::Entry], moving: O::Entry)
     requires some { 0 < length entries.old }
-    requires holed { Holed O.Order.le entries.old 0 }
-    ensures ordered { Heap O.Order.le entries.new }
+    requires holed { Holed O.le entries.old 0 }
+    ensures ordered { Heap O.le entries.new }
     ensures shuffled { IsPermutation (slice_set entries.old 0 moving) entries.new }
 {
     let hole = sift_down::<O>(entries);

@@ -12,12 +12,13 @@ pub use heap::{replace_first, sift_down, sift_up};
 pub use offer::{ByLength, Offer, OfferQueue};
 pub use queues::Queue;
 
-// An order on entries.
+/// An order on entries.
 pub trait Order {
     type Entry: Copy;
 
     ghost le: { Self.Entry → Self.Entry → Bool };
 
+    /// Whether the first comes before the second, or is as far.
     fn at_most(a: Self::Entry, b: Self::Entry) -> bool
         ensures { result ≡ le a b };
 

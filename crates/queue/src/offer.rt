@@ -6,25 +6,25 @@ use crate::{Order, Queue};
 use lengths::Length;
 use std::marker::PhantomData;
 
-// A length, as its row, offered to a cell by its number.
+/// A length, as its row, offered to a cell by its number.
 #[derive(Clone, Copy, Debug, PartialEq, Eq)]
 pub struct Offer<R> {
     pub length: R,
     pub cell: usize,
 }
 
-// Offers in the order of their lengths, and of equals in that of their cell numbers.
+/// Offers in the order of their lengths, and of equals in that of their cell numbers.
 pub struct ByLength<K> {
     kind: PhantomData<K>,
 }
 
-// A queue of offers.
+/// A queue of offers.
 pub type OfferQueue<'a, K> = Queue<'a, Offer<<K as Length>::Row>, ByLength<K>>;
 
 impl<K: Length> Order for ByLength<K> {
     type Entry = Offer<K::Row>;
 
-    ghost le = { offer_le K.Length.kind K.Length.rows };
+    ghost le = { offer_le K.kind };
 
     ghost lawful = { offer_laws K.Length.lawful };
 

@@ -5,19 +5,20 @@ ghost use Rattle.queue.specs.Heaps.{Heap};
 use crate::{Order, replace_first, sift_up};
 use std::marker::PhantomData;
 
-// A priority queue in the front part of a lent slice, which is a heap. It takes no memory of its own, so the part's length stands beside it.
+/// A priority queue in the front part of a lent slice, which is a heap. It takes no memory of its own, so the part's length stands beside it.
 #[derive(Drop)]
 pub struct Queue<'a, E, O: Order<Entry = E>> {
     entries: &'a mut [E],
     len: usize,
     order: PhantomData<O>,
     ghost within: { len ≤ length entries.now },
-    ghost ordered: { Heap O.Order.le (take len entries.now) },
+    ghost ordered: { Heap O.le (take len entries.now) },
 }
 
 impl<'a, E: Copy, O: Order<Entry = E>> Queue<'a, E, O> {
     ghost use Rattle.queue.specs.Queues.{Pops, Pushes};
 
+    /// An empty queue, with room for as many entries as the slice has.
     pub fn new(entries: &'a mut [E]) -> Queue<'a, E, O>
         ensures len { result.len ≡ 0 }
         ensures entries { result.entries.now ≡ entries.old }
@@ -29,9 +30,9 @@ impl<'a, E: Copy, O: Order<Entry = E>> Queue<'a, E, O> {
         }
     }
 
-    // The same entries in the same places by another order, by which they have to be a heap, as no entry or one is by any.
+    /// The same entries in the same places by another order, by which they have to be a heap, as no entry or one is by any.
     pub fn reordered<P: Order<Entry = E>>(self) -> Queue<'a, E, P>
-        requires { Heap P.Order.le (take self.len self.entries.now) }
+        requires { Heap P.le (take self.len self.entries.now) }
         ensures len { result.len ≡ self.entry.len }
         ensures entries { result.entries.now ≡ self.entry.entries.now }
     {
@@ -43,19 +44,21 @@ impl<'a, E: Copy, O: Order<Entry = E>> Queue<'a, E, O> {
         }
     }
 
+    /// How many entries are queued.
     pub fn len(&self) -> usize
         ensures { result ≡ self.now.len }
     {
         self.len
     }
 
+    /// Whether none is.
     pub fn is_empty(&self) -> bool
         ensures { result ≡ (self.now.len == 0) }
     {
         self.len == 0
     }
 
-    // One entry more, or false where the slice is full, as a set answers an insertion: there is no more to say.
+    /// One entry more, or false where the slice is full, as a set answers an insertion: there is no more to say.
     pub fn push(&mut self, entry: E) -> bool
         ensures { Pushes self.old entry self.new result }
     {
@@ -68,9 +71,9 @@ impl<'a, E: Copy, O: Order<Entry = E>> Queue<'a, E, O> {
         true
     }
 
-    // Takes the least entry out, if there is one.
+    /// Takes the least entry out, if there is one.
     pub fn pop(&mut self) -> Option<E>
-        ensures { Pops O.Order.le self.old self.new result }
+        ensures { Pops O.le self.old self.new result }
     {
         if self.len == 0 {
             return None;

@@ -17,7 +17,7 @@ loop-hole-preserved g c =
     let later : h < k = omega (arith, told.beside) in
     let within : k < length xs = omega (arith, told.beside) in
     let value = get_or_read xs k v within c.index-entries-child.is in
-    let least = each_child laws xs h k (λ d. (told.least d).0) (λ d _. (told.least d).1) in
+    let least = each_child laws xs h k (λ d. told.at_most_left d) (λ d _. told.at_most_right d) in
     record {
       within = omega (arith, length-set xs h v);
       holed = moved_down laws xs h k v later within down value least inv.holed;
