@@ -16,16 +16,17 @@ source_within b group j some =
     (cases_lt j (area b.size))
 
 -- j is an open neighbour of i across an unbarred step
-pub record Crosses {L : Type 0} (m : Measuring L) (i j : ℕ) : Type 0 where
+pub record Crosses {L R : Type 0} (m : Measuring L R) (i j : ℕ) : Type 0 where
   pub near : open_neighbour m.board i j ≡ true
   pub unbarred : m.gauge.barred (step m.board i j) ≡ false
 
 -- the length that is carried across
-abbrev pub carried : {L : Type 0} → Measuring L → ℕ → ℕ → L → L
+abbrev pub carried : {L R : Type 0} → Measuring L R → ℕ → ℕ → L → L
 carried m i j a = m.gauge.carried (step m.board i j) a
 
-module _ {L : Type 0} (m : Measuring L) where
-  pub onward_crosses : (i j : ℕ) (a : L) {b : L} → onward m i j (Some a) ≡ Some b → Crosses m i j × (b ≡ carried m i j a)
+module _ {L R : Type 0} (m : Measuring L R) where
+  pub onward_crosses : (i j : ℕ) (a : L) {b : L} → onward m i j (Some a) ≡ Some b →
+      Crosses m i j × (b ≡ carried m i j a)
   onward_crosses i j a e =
       ⊎_elim
       (λ w. ⊎_elim
@@ -35,12 +36,14 @@ module _ {L : Type 0} (m : Measuring L) where
       (λ w. some_or_none w.1 refl)
       (cond_some (open_neighbour m.board i j) _ _ e)
 
-  pub crosses_onward : (i j : ℕ) (a : L) → Crosses m i j → onward m i j (Some a) ≡ Some (carried m i j a)
+  pub crosses_onward : (i j : ℕ) (a : L) → Crosses m i j →
+      onward m i j (Some a) ≡ Some (carried m i j a)
   crosses_onward i j a crosses =
       cond-true (open_neighbour m.board i j) _ _ crosses.near ∙ cond-false (m.gauge.barred (step m.board i j)) _ _ crosses.unbarred
 
   -- a path to j by way of i is a path to i, carried across the step
-  pub path_parts : (i j : ℕ) (cells : List ℕ) (a : L) → Path m j (i ∷ cells) a → (x : L) × Path m i cells x × Crosses m i j × (a ≡ carried m i j x)
+  pub path_parts : (i j : ℕ) (cells : List ℕ) (a : L) → Path m j (i ∷ cells) a →
+      (x : L) × Path m i cells x × Crosses m i j × (a ≡ carried m i j x)
   path_parts i j cells a path =
       ⊎_elim
       (λ none. some_or_none path (ap (onward m i j) none))
@@ -49,7 +52,8 @@ module _ {L : Type 0} (m : Measuring L) where
       (some.0, some.1, across.0, across.1))
       (option_cases (path_length m (i ∷ cells)))
 
-  pub offer_crosses : (r : Bid L) (j : ℕ) {x : Bid L} → offer m r j ≡ Some x → Crosses m r.cell j × (x ≡ record { cell = j; length = carried m r.cell j r.length; pad = r.pad; link = r.cell })
+  pub offer_crosses : (r : Bid L) (j : ℕ) {x : Bid L} → offer m r j ≡ Some x →
+      Crosses m r.cell j × (x ≡ record { cell = j; length = carried m r.cell j r.length; pad = r.pad; link = r.cell })
   offer_crosses r j e =
       let made = offered_is m r j _ e in
       let across = onward_crosses r.cell j r.length made.1 in

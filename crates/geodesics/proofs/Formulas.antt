@@ -1,8 +1,10 @@
--- The formulas of the rulers give a genuine step at least one unit and fewer than 2^24. Assumes nothing.
-use Rattle.std.proofs.Common.{ℕ, ◌^◌, ◌<◌, ◌≤◌, cond, ⊎_elim, arith}
+-- The formulas of the rulers give a genuine step at least one unit and fewer than 2^24, and its
+-- reverse as many. Assumes nothing.
+use Rattle.std.proofs.Common.{◌≡◌, ℕ, ◌^◌, ◌<◌, ◌≤◌, cond, ⊎_elim, arith}
 use Rattle.std.proofs.lemmas.Nat.{mul-le}
 use Rattle.std.proofs.lemmas.Bool.{cases_lt, cond_both}
-use Rattle.gauges.specs.Steps.{Genuine, rise, edge}
+use Rattle.gauges.specs.Steps.{Genuine, reversed, rise, edge}
+use Rattle.gauges.specs.Reverses.{rise_back, edge_back}
 use Rattle.gauges.specs.Rulers.{chessboard_units, three_four_units, euclid_units}
 use Rattle.gauges.specs.declared.step.Step.{Step}
 use Rattle.gauges.proofs.Roots.{euclid_root}
@@ -42,3 +44,16 @@ euclid_moderate = record {
       )))
       (cases_lt (euclid_units s) (2 ^ 24));
 }
+
+-- a step and its reverse have the same units
+abbrev pub Alike : (Step → ℕ) → Type 0
+Alike units = (s : Step) → Genuine s → units (reversed s) ≡ units s
+
+pub chessboard_alike : Alike chessboard_units
+chessboard_alike s _ = rw (rise_back s)
+
+pub three_four_alike : (w : ℕ) → Alike (three_four_units w)
+three_four_alike w s _ = rw (rise_back s, edge_back s)
+
+pub euclid_alike : Alike euclid_units
+euclid_alike s _ = rw (rise_back s, edge_back s)

@@ -1,8 +1,9 @@
--- By the four rulers the gap of two measured maps is the least plain sum between the groups. Assumes nothing.
-use Rattle.std.proofs.Common.{◌≡◌, ℕ, ◌≤◌, true, List, Some, None, MatchOption, Option, ap, ◌∙◌, arith}
+-- By the four rulers the gap of two measured maps is the least plain sum between the groups.
+-- Assumes nothing.
+use Rattle.std.proofs.Common.{◌≡◌, ℕ, ◌≤◌, true, Some, None, MatchOption, Option, ap, ◌∙◌, arith}
 use Rattle.std.proofs.lemmas.Bool.Decides.{nat_tests}
 use Rattle.board.specs.Sizes.{area}
-use Rattle.lengths.specs.Kinds.{Kind, KindLaws, Rows}
+use Rattle.lengths.specs.Kinds.{Kind, KindLaws}
 use Rattle.lengths.specs.Wholes.{whole_kind}
 use Rattle.lengths.specs.Counteds.{counted_kind}
 use Rattle.lengths.specs.WholeLaws.{whole_laws}
@@ -10,48 +11,36 @@ use Rattle.lengths.specs.CountedLaws.{counted_laws}
 use Rattle.lengths.specs.declared.whole.Whole.{Whole}
 use Rattle.lengths.specs.declared.counted.Counted.{Counted}
 use Rattle.lengths.specs.declared.counted_row.CountedRow.{CountedRow}
-use Rattle.gauges.specs.Steps.{Genuine, reversed}
 use Rattle.gauges.specs.Meanings.{Crossing, RulerLaws, Ruling, adding}
-use Rattle.gauges.specs.Rulers.{whole_ruling, counted_chessboard, chessboard_units, three_four_units, euclid_units}
-use Rattle.gauges.specs.Reverses.{rise_back, edge_back}
+use Rattle.gauges.specs.Rulers.{whole_ruling, counted_chessboard, chessboard_units}
 use Rattle.gauges.specs.RulerLaw.{by_adding, counted_gauge, counted_ruler, whole_gauge, whole_ruler}
 use Rattle.gauges.specs.declared.step.Step.{Step}
 use Rattle.measuring.specs.Boards.{Board}
 use Rattle.measuring.specs.Maps.{measured_map}
-use Rattle.measuring.specs.Paths.{Path, PathBetween, measuring}
-use Rattle.measuring.specs.Readings.{least_sum}
-use Rattle.geodesics.specs.Between.{ShortestBetween}
+use Rattle.measuring.specs.Paths.{measuring}
+use Rattle.measuring.specs.MapReadings.{least_sum}
+use Rattle.geodesics.specs.Between.{NoPathBetween, ShortestBetween}
 use Rattle.geodesics.specs.Fitting.{Fitting}
 use Rattle.geodesics.specs.GapSums.{FewestStepsBetween, GapTransforms, LeastSumBetween, NoListBetween, PublishedGap}
-use Rattle.geodesics.specs.Least.{Shortest}
+use Rattle.geodesics.specs.Least.{NoPath, Shortest}
 use Rattle.geodesics.specs.Transform.{FewestSteps, LeastSum, NoList, Transforms}
+use Rattle.geodesics.proofs.Formulas.{Alike, chessboard_alike, euclid_alike, three_four_alike}
 use Rattle.geodesics.proofs.Gaps.{gap_is_least}
 use Rattle.geodesics.proofs.ShortestSums.{between_from, between_parts, end_row, least_between, no_list, no_list_between, no_longer, shortest_row}
 use Rattle.geodesics.proofs.Transforms.{published_transform}
 
--- a step and its reverse have the same units
-abbrev pub Alike : (Step → ℕ) → Type 0
-Alike units = (s : Step) → Genuine s → units (reversed s) ≡ units s
-
-pub chessboard_alike : Alike chessboard_units
-chessboard_alike s _ = rw (rise_back s)
-
-pub three_four_alike : (w : ℕ) → Alike (three_four_units w)
-three_four_alike w s _ = rw (rise_back s, edge_back s)
-
-pub euclid_alike : Alike euclid_units
-euclid_alike s _ = rw (rise_back s, edge_back s)
-
--- what is so of the least lengths of paths, to a cell and between the groups, and where there is no path
-pub record Summing {L : Type 0} (kind : Kind L) (g : Crossing L) (units : Step → ℕ)
+-- what is so of the least lengths of paths, to a cell and between the groups, and where there is no
+-- path
+pub record Summing {L R : Type 0} (kind : Kind L R) (g : Crossing L) (units : Step → ℕ)
     (To : Board → ℕ → ℕ → L → Type 0) (Between : Board → L → Type 0) : Type 0 where
   pub to_cell : (b : Board) → Fitting b → (group j : ℕ) (a : L) →
       Shortest (measuring kind g b group) j a → To b group j a
   pub none_to : (b : Board) → Fitting b → (group j : ℕ) →
-      ((cells : List ℕ) (a : L) → Path (measuring kind g b group) j cells a → ⊥) → NoList units b group j
-  pub between : (b : Board) → Fitting b → (a : L) → ShortestBetween (measuring kind g b 1) 2 a → Between b a
+      NoPath (measuring kind g b group) j → NoList units b group j
+  pub between : (b : Board) → Fitting b → (a : L) → ShortestBetween (measuring kind g b 1) 2 a →
+      Between b a
   pub none_between : (b : Board) → Fitting b →
-      ((j : ℕ) (cells : List ℕ) (a : L) → PathBetween (measuring kind g b 1) 2 j cells a → ⊥) → NoListBetween units b
+      NoPathBetween (measuring kind g b 1) 2 → NoListBetween units b
 
 abbrev pub WholeSumming : (Step → ℕ) → Type 0
 WholeSumming units =
@@ -87,7 +76,8 @@ counted_steps a c le same = grind (arith, nat_tests)
 abbrev counted_row : Board → ℕ → ℕ → CountedRow → Type 0
 counted_row b group j row = LeastSum chessboard_units b group j row.units × FewestSteps chessboard_units b group j row.units row.steps
 
-counted_between : (b : Board) → Fitting b → (a : Counted) → ShortestBetween (measuring counted_kind (adding counted_chessboard) b 1) 2 a →
+counted_between : (b : Board) → Fitting b → (a : Counted) →
+    ShortestBetween (measuring counted_kind (adding counted_chessboard) b 1) 2 a →
     LeastSumBetween chessboard_units b a.units × FewestStepsBetween chessboard_units b a.units a.steps
 counted_between b fits a shortest =
     let own = (end_row counted_laws counted_gauge chessboard_units counted_row published_transform.counted b fits a shortest).1 in (
@@ -121,11 +111,12 @@ pub match_on : {A : Type 0} (o : Option A) {P P' : Type 0} {Q Q' : A → Type 0}
 match_on None none some holds = none holds
 match_on (Some a) none some holds = some a holds
 
-gap_sums : {L R : Type 0} {kind : Kind L} {rows : Rows L R} → KindLaws kind rows → (ruler : Ruling L) → RulerLaws kind ruler →
+gap_sums : {L R : Type 0} {kind : Kind L R} → KindLaws kind → (ruler : Ruling L) →
+    RulerLaws kind ruler →
     {units : Step → ℕ} {To : Board → ℕ → ℕ → L → Type 0} {Between : Board → L → Type 0} → Summing kind (adding ruler) units To Between → (b : Board) → Fitting b →
-    let one = measured_map rows (measuring kind (adding ruler) b 1) in
-    let two = measured_map rows (measuring kind (adding ruler) b 2) in
-    MatchOption (least_sum kind rows ruler.sum one two (area b.size)) (NoListBetween units b) (Between b)
+    let one = measured_map (measuring kind (adding ruler) b 1) in
+    let two = measured_map (measuring kind (adding ruler) b 2) in
+    MatchOption (least_sum kind ruler.sum one two (area b.size)) (NoListBetween units b) (Between b)
 gap_sums laws ruler ruled summing b fits =
     match_on _ (summing.none_between b fits) (summing.between b fits) (gap_is_least laws ruler ruled (adding ruler) (by_adding ruler) b fits)
 

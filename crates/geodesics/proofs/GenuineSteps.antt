@@ -17,7 +17,8 @@ possible b fits i lt = record {
   height = fits i lt;
 }
 
-pub genuine_step : (b : Board) → Fitting b → (i j : ℕ) → i < area b.size → open_neighbour b i j ≡ true → Genuine (step b i j)
+pub genuine_step : (b : Board) → Fitting b → (i j : ℕ) → i < area b.size →
+    open_neighbour b i j ≡ true → Genuine (step b i j)
 genuine_step b fits i j lt near = record {
   from = possible b fits i lt;
   to = possible b fits j (neighbour_within b i j near);

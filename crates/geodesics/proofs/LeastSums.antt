@@ -3,16 +3,17 @@ use Rattle.std.proofs.Common.{◌≡◌, ℕ, zero, suc, ◌<◌, true, ◌⊎�
 use Rattle.std.proofs.lemmas.Option.{MatchOption-at_some, MatchOption-at_none}
 use Rattle.std.proofs.lemmas.Bool.{cases_eq, cond_both}
 use Rattle.board.specs.declared.record.MapRecord.{MapRecord}
-use Rattle.lengths.specs.Kinds.{Kind, Rows, KindLaws}
-use Rattle.measuring.specs.Readings.{sum_at, least, least_sum}
+use Rattle.lengths.specs.Kinds.{Kind, KindLaws}
+use Rattle.measuring.specs.MapReadings.{sum_at, least, least_sum}
 use Rattle.measuring.proofs.Ranked.{option_cases, some_or_none, same_some, le_same, le_since_not}
 
-pub some_cases : {A : Type 0} (o : Option A) (P : Type 0) (Q : A → Type 0) → (o ≡ None → P) → ((a : A) → o ≡ Some a → Q a) → MatchOption o P Q
+pub some_cases : {A : Type 0} (o : Option A) (P : Type 0) (Q : A → Type 0) → (o ≡ None → P) →
+    ((a : A) → o ≡ Some a → Q a) → MatchOption o P Q
 some_cases None P Q none some = none refl
 some_cases (Some a) P Q none some = some a refl
 
 -- a is one of the two, and at most as long as each
-record LeastOf {L : Type 0} (kind : Kind L) (x y : Option L) (a : L) : Type 0 where
+record LeastOf {L R : Type 0} (kind : Kind L R) (x y : Option L) (a : L) : Type 0 where
   either : (x ≡ Some a) ⊎ (y ≡ Some a)
   first : (b : L) → x ≡ Some b → kind.le a b ≡ true
   second : (b : L) → y ≡ Some b → kind.le a b ≡ true
@@ -22,14 +23,15 @@ abbrev pub NoneBelow : {L : Type 0} → (ℕ → Option L) → ℕ → Type 0
 NoneBelow f n = (j : ℕ) → j < n → f j ≡ None
 
 -- a is one of the first n, and at most as long as each
-pub record LeastBelow {L : Type 0} (kind : Kind L) (f : ℕ → Option L) (n : ℕ) (a : L) : Type 0 where
+pub record LeastBelow {L R : Type 0} (kind : Kind L R) (f : ℕ → Option L) (n : ℕ) (a : L) : Type 0 where
   pub cell : ℕ
   pub within : cell < n
   pub is : f cell ≡ Some a
   pub least : (j : ℕ) (b : L) → j < n → f j ≡ Some b → kind.le a b ≡ true
 
-module _ {L R : Type 0} {kind : Kind L} {rows : Rows L R} (laws : KindLaws kind rows) where
-  least_cases : (x y : Option L) → MatchOption (least kind x y) ((x ≡ None) × (y ≡ None)) (LeastOf kind x y)
+module _ {L R : Type 0} {kind : Kind L R} (laws : KindLaws kind) where
+  least_cases : (x y : Option L) → MatchOption (least kind x y) ((x ≡ None) × (y ≡ None))
+      (LeastOf kind x y)
   least_cases None None = (refl, refl)
   least_cases (Some a) None = record { either = inl refl; first = λ c e. le_same laws (same_some refl e); second = λ c e. some_or_none e refl }
   least_cases None (Some b) = record { either = inr refl; first = λ c e. some_or_none e refl; second = λ c e. le_same laws (same_some refl e) }
@@ -47,12 +49,14 @@ module _ {L R : Type 0} {kind : Kind L} {rows : Rows L R} (laws : KindLaws kind 
       })
 
   module _ (sum : L → L → L) (first second : List (MapRecord R)) where
-    pub least_below : (n : ℕ) → MatchOption (least_sum kind rows sum first second n) (NoneBelow (sum_at kind rows sum first second) n) (LeastBelow kind (sum_at kind rows sum first second) n)
+    pub least_below : (n : ℕ) → MatchOption (least_sum kind sum first second n)
+        (NoneBelow (sum_at kind sum first second) n)
+        (LeastBelow kind (sum_at kind sum first second) n)
     unfolding least_sum
     least_below zero = λ j lt. absurd (omega arith)
     least_below (suc n) =
-        let f = sum_at kind rows sum first second in
-        let before = least_sum kind rows sum first second n in
+        let f = sum_at kind sum first second in
+        let before = least_sum kind sum first second n in
         some_cases (least kind before (f n)) _ _
         (λ none.
         let both = MatchOption-at_none _ _ none (least_cases before (f n)) in

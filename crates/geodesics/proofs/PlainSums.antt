@@ -16,12 +16,14 @@ pub record Moderate (units : Step → ℕ) : Type 0 where
   pub few : (s : Step) → Genuine s → units s < 2 ^ 24
 
 -- what is found behind a test
-pub taken_some : {A : Type 0} (t : Bool) (o : Option A) (x : A) → cond t o None ≡ Some x → (t ≡ true) × (o ≡ Some x)
+pub taken_some : {A : Type 0} (t : Bool) (o : Option A) (x : A) → cond t o None ≡ Some x →
+    (t ≡ true) × (o ≡ Some x)
 taken_some true o x e = (refl, e)
 taken_some false o x e = absurd (grind arith)
 
 -- what is found at a source
-pub source_sum : {A : Type 0} (t : Bool) (x y : A) → cond t None (Some x) ≡ Some y → (t ≡ false) × (y ≡ x)
+pub source_sum : {A : Type 0} (t : Bool) (x y : A) → cond t None (Some x) ≡ Some y →
+    (t ≡ false) × (y ≡ x)
 source_sum true x y e = absurd (grind arith)
 source_sum false x y e = (refl, cc)
 
@@ -32,7 +34,8 @@ pub record Across (units : ℕ) (t : Bool) (before : Option ℕ) (n : ℕ) : Typ
   pub before_is : before ≡ Some sum
   pub after_is : n ≡ sum + units
 
-pub across : (units : ℕ) (t : Bool) (before : Option ℕ) (n : ℕ) → cond t (plus units before) None ≡ Some n → Across units t before n
+pub across : (units : ℕ) (t : Bool) (before : Option ℕ) (n : ℕ) →
+    cond t (plus units before) None ≡ Some n → Across units t before n
 across units t None n e = let found = (taken_some t None n e).1 in absurd (grind arith)
 across units t (Some k) n e =
     let found = taken_some t (Some (k + units)) n e in
@@ -44,7 +47,9 @@ pub record Bounded (b : Board) (j steps n : ℕ) : Type 0 where
   pub least : steps ≤ n
   pub greatest : n ≤ steps * (2 ^ 24 - 1)
 
-pub sum_bounded : {units : Step → ℕ} → Moderate units → (b : Board) → Fitting b → (group j : ℕ) (cells : List ℕ) (n : ℕ) → plain_sum units b group (j ∷ cells) ≡ Some n → Bounded b j (length cells) n
+pub sum_bounded : {units : Step → ℕ} → Moderate units → (b : Board) → Fitting b → (group j : ℕ)
+    (cells : List ℕ) (n : ℕ) → plain_sum units b group (j ∷ cells) ≡ Some n →
+    Bounded b j (length cells) n
 sum_bounded moderate b fitting group j [] n e =
     let start = source_sum (eqb (source_of b group j) 0) 0 n e in
     record { within = source_within b group j (omega (arith, eqb-false (source_of b group j) 0 start.0)); least = omega arith; greatest = omega arith }

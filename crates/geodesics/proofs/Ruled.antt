@@ -4,7 +4,7 @@ use mathlib.Core.List.Memᴰ.{head as first}
 use mathlib.Core.List.Memᴰ.{tail as later}
 use mathlib.Core.List.{Memᴰ as Among}
 use Rattle.std.proofs.lemmas.Bool.{false≢true, eqb-true, eq-eqb, or_cases, or_left, or_right}
-use Rattle.lengths.specs.Kinds.{Rows, KindLaws}
+use Rattle.lengths.specs.Kinds.{KindLaws}
 use Rattle.measuring.specs.Paths.{Measuring}
 use Rattle.measuring.specs.Rankings.{Bid, is_ranked, next, first_ranked, ranking}
 use Rattle.measuring.specs.Rules.{RanksNext}
@@ -12,7 +12,8 @@ use Rattle.measuring.proofs.Ranked.{option_cases, next_is, is_next, next_none, n
 use Rattle.geodesics.specs.Unique.{ByRule, RankingOf, OneRanking}
 
 module _ {L : Type 0} where
-  pub ranked_among : (rs : List (Bid L)) (j : ℕ) → is_ranked rs j ≡ true → (r : Bid L) × Among r rs × (r.cell ≡ j)
+  pub ranked_among : (rs : List (Bid L)) (j : ℕ) → is_ranked rs j ≡ true →
+      (r : Bid L) × Among r rs × (r.cell ≡ j)
   unfolding is_ranked
   ranked_among [] j e = absurd (false≢true e)
   ranked_among (r ∷ rs) j e =
@@ -26,9 +27,10 @@ module _ {L : Type 0} where
   among_ranked {r = r} (first {x = s} {xs = rs} is) = or_left _ (is_ranked rs r.cell) (eq-eqb s.cell r.cell (ap (λ b. b.cell) (sym is)))
   among_ranked {r = r} (later {x = s} there) = or_right (eqb s.cell r.cell) _ (among_ranked there)
 
-module _ {L : Type 0} {m : Measuring L} where
+module _ {L R : Type 0} {m : Measuring L R} where
   -- each was ranked by the rule, after some others
-  pub rule_at : {r : Bid L} {rs : List (Bid L)} → Among r rs → ByRule m rs → (before : List (Bid L)) × RanksNext m before r
+  pub rule_at : {r : Bid L} {rs : List (Bid L)} → Among r rs → ByRule m rs →
+      (before : List (Bid L)) × RanksNext m before r
   rule_at (first {xs = rs} is) rule = (rs, subst (RanksNext m rs) (sym is) rule.1)
   rule_at (later there) rule = rule_at there rule.0
 
@@ -36,7 +38,7 @@ module _ {L : Type 0} {m : Measuring L} where
   by_rule_sound [] rule = none_sound
   by_rule_sound (r ∷ rs) rule = rule_sound (by_rule_sound rs rule.0) rule.1
 
-module _ {L R : Type 0} (m : Measuring L) {rows : Rows L R} (laws : KindLaws m.kind rows) where
+module _ {L R : Type 0} (m : Measuring L R) (laws : KindLaws m.kind) where
   first_ranked_by_rule : (n : ℕ) → ByRule m (first_ranked m n)
   unfolding first_ranked
   first_ranked_by_rule zero = tt

@@ -1,14 +1,16 @@
 -- Boards that say the same have one map. Assumes nothing.
 use Rattle.std.proofs.Common.{◌≡◌, ℕ, zero, suc, ◌*◌, ◌/◌, ◌%◌, ◌<◌, cond, not, ◌&&◌, eqb, ltb, List, [], ◌∷◌, length, map, sum_by, Some, None, Option, sym, refl, ap, ◌∙◌, ⊎_elim, arith}
-use Rattle.std.specs.List.{range_with_len, AllByRecursion}
+use Rattle.std.specs.List.{All, range_with_len}
+use Rattle.std.proofs.lemmas.List.Elements.{All-head, All-tail}
 use Rattle.std.proofs.lemmas.Bool.{and_left, cases_Bool, cases_lt, cond-false, le-ltb}
 use Rattle.board.specs.Sizes.{area}
 use Rattle.board.specs.Tables.{source_pad}
-use Rattle.lengths.specs.Kinds.{Kind, Rows, KindLaws}
+use Rattle.lengths.specs.Kinds.{Kind, KindLaws}
 use Rattle.gauges.specs.Meanings.{crossed}
 use Rattle.gauges.specs.Steps.{neighbours}
-use Rattle.measuring.specs.Boards.{Board, cell, is_open, source_of, step, open_neighbour, how_many}
-use Rattle.measuring.specs.Paths.{Measuring, onward}
+use Rattle.measuring.specs.Boards.{Board, cell, is_open, source_of, step, open_neighbour}
+use Rattle.measuring.specs.Sums.{how_many}
+use Rattle.measuring.specs.Paths.{Measuring, measuring, onward}
 use Rattle.measuring.specs.Rankings.{Bid, offered, shorter, best, is_ranked, next_below, next, and_one, first_ranked, ranking}
 use Rattle.measuring.specs.Maps.{record_at, measured_map, counts_of, reached_count, step_count}
 use Rattle.measuring.proofs.Ranked.{first_ranked_sound}
@@ -18,10 +20,10 @@ use Rattle.geodesics.proofs.GenuineSteps.{neighbour_within}
 use Rattle.geodesics.proofs.FirstOffers.{first_offers}
 use Rattle.geodesics.proofs.Ruled.{one_ranking}
 
-abbrev on : {L : Type 0} → Measuring L → Board → Measuring L
-on m c = record { kind = m.kind; gauge = m.gauge; board = c; group = m.group }
+abbrev on : {L R : Type 0} → Measuring L R → Board → Measuring L R
+on m c = measuring m.kind m.gauge c m.group
 
-module _ {L : Type 0} (m : Measuring L) (c : Board) (same : SameBoard m.group m.board c) where
+module _ {L R : Type 0} (m : Measuring L R) (c : Board) (same : SameBoard m.group m.board c) where
   same_area : area c.size ≡ area m.board.size
   same_area = λ k. sym same.rows k * sym same.columns k
 
@@ -57,7 +59,8 @@ module _ {L : Type 0} (m : Measuring L) (c : Board) (same : SameBoard m.group m.
         to = record { row = j / columns k; column = j % columns k; height = sym (same.heights j to) k };
       }
 
-  same_onward : (i j : ℕ) (o : Option L) → i < area m.board.size → onward (on m c) i j o ≡ onward m i j o
+  same_onward : (i j : ℕ) (o : Option L) → i < area m.board.size →
+      onward (on m c) i j o ≡ onward m i j o
   same_onward i j None lt = refl
   same_onward i j (Some a) lt =
       ⊎_elim
@@ -67,20 +70,24 @@ module _ {L : Type 0} (m : Measuring L) (c : Board) (same : SameBoard m.group m.
       sym (cond-false (open_neighbour m.board i j) _ None apart))
       (cases_Bool (open_neighbour m.board i j))
 
-  same_best : (rs : List (Bid L)) → AllByRecursion (λ r. r.cell < area m.board.size) rs → (j : ℕ) → best (on m c) rs j ≡ best m rs j
+  abbrev Within : Bid L → Type 0
+  Within r = r.cell < area m.board.size
+
+  same_best : (rs : List (Bid L)) → All Within rs → (j : ℕ) → best (on m c) rs j ≡ best m rs j
   unfolding best
   same_best [] within j =
       ap (λ pad. cond (eqb pad 0) None (Some (record { cell = j; length = m.kind.zero; pad = pad; link = j }))) (same_source j)
   same_best (r ∷ rs) within j =
-      λ k. shorter m.kind (same_best rs within.1 j k) (offered r j (same_onward r.cell j (Some r.length) within.0 k))
+      λ k. shorter m.kind (same_best rs (All-tail Within r rs within) j k) (offered r j (same_onward r.cell j (Some r.length) (All-head Within r rs within) k))
 
-  same_next_below : (rs : List (Bid L)) → AllByRecursion (λ r. r.cell < area m.board.size) rs → (n : ℕ) → next_below (on m c) rs n ≡ next_below m rs n
+  same_next_below : (rs : List (Bid L)) → All Within rs → (n : ℕ) →
+      next_below (on m c) rs n ≡ next_below m rs n
   unfolding next_below
   same_next_below rs within zero = refl
   same_next_below rs within (suc n) =
       λ k. shorter m.kind (same_next_below rs within n k) (cond (is_ranked rs n) None (same_best rs within n k))
 
-  module _ {R : Type 0} {rows : Rows L R} (laws : KindLaws m.kind rows) where
+  module _ (laws : KindLaws m.kind) where
     same-first-ranked : (n : ℕ) → first_ranked (on m c) n ≡ first_ranked m n
     unfolding first_ranked
     same-first-ranked zero = refl
@@ -92,9 +99,9 @@ module _ {L : Type 0} (m : Measuring L) (c : Board) (same : SameBoard m.group m.
     same_ranking : ranking (on m c) ≡ ranking m
     same_ranking = same-first-ranked (area c.size) ∙ ap (first_ranked m) same_area
 
-    same_map : measured_map rows (on m c) ≡ measured_map rows m
+    same_map : measured_map (on m c) ≡ measured_map m
     unfolding measured_map
-    same_map = λ k. map (record_at m.kind rows (same_ranking k)) (range_with_len 0 (same_area k))
+    same_map = λ k. map (record_at m.kind (same_ranking k)) (range_with_len 0 (same_area k))
 
     -- and one pair of counts
     pub same_counts : counts_of (on m c) ≡ counts_of m
@@ -104,5 +111,5 @@ module _ {L : Type 0} (m : Measuring L) (c : Board) (same : SameBoard m.group m.
       steps = sum_by (λ r. how_many (λ j. same_neighbour r.cell j k) (same_area k)) (same_ranking k);
     }
 
-pub one_map : {L R : Type 0} {kind : Kind L} {rows : Rows L R} → KindLaws kind rows → OverEveryGauge kind rows OneMap
+pub one_map : {L R : Type 0} {kind : Kind L R} → KindLaws kind → OverEveryGauge kind OneMap
 one_map laws g lawful b fits group = (first_offers _ laws, one_ranking _ laws, λ c same. same_map _ c same laws)

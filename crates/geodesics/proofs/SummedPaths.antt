@@ -1,34 +1,34 @@
 -- Paths and plain sums go together, and a measured length is the sum along its way. Assumes nothing.
-use Rattle.std.proofs.Common.{◌≡◌, ℕ, zero, suc, ◌+◌, ◌^◌, ◌<◌, ◌≤◌, Bool, true, false, eqb, List, [], ◌∷◌, length, Some, None, MatchBool, Option, sym, refl, ap, ◌∙◌, subst, subst₂, arith}
+use Rattle.std.proofs.Common.{◌≡◌, ℕ, zero, suc, ◌+◌, ◌^◌, ◌<◌, ◌≤◌, true, false, eqb, List, [], ◌∷◌, length, Some, None, MatchBool, Option, sym, refl, ap, ◌∙◌, subst, subst₂, arith}
 use Rattle.std.proofs.lemmas.List.FromFn.{get_or-map-range_with_len}
 use Rattle.std.proofs.lemmas.Bool.{cond-true, cond-false, cond_both}
 use Rattle.std.proofs.lemmas.Bool.Decides.{when_true, when_false}
 use Rattle.board.proofs.Areas.{area_bound}
 use Rattle.board.specs.Sizes.{area}
 use Rattle.board.specs.declared.record.MapRecord.{MapRecord}
-use Rattle.lengths.specs.Kinds.{Kind, Rows, KindLaws}
+use Rattle.lengths.specs.Kinds.{Kind, KindLaws}
 use Rattle.gauges.specs.Meanings.{Crossing, Lawful}
 use Rattle.gauges.specs.declared.step.Step.{Step}
 use Rattle.measuring.specs.Boards.{Board, open_neighbour, source_of, step}
-use Rattle.measuring.specs.Paths.{Measuring, onward, path_length}
+use Rattle.measuring.specs.Paths.{measuring, onward, path_length}
 use Rattle.measuring.specs.Rankings.{Bid, ranking}
 use Rattle.measuring.specs.Maps.{measured_map, ranked_record, record_at}
 use Rattle.measuring.specs.Ways.{at, then, way_within}
 use Rattle.geodesics.specs.Fitting.{Fitting}
-use Rattle.geodesics.specs.Least.{measured}
+use Rattle.geodesics.specs.Least.{measured_record}
 use Rattle.geodesics.specs.Transform.{plus, plain_sum, NoList}
 use Rattle.geodesics.proofs.Crossings.{path_parts}
-use Rattle.geodesics.proofs.LeastPaths.{least_lengths, links_are_ways}
+use Rattle.geodesics.proofs.LeastPaths.{least_lengths, links_are_ways, when_cases}
 use Rattle.geodesics.proofs.PlainSums.{Moderate, taken_some, source_sum, across, sum_bounded}
 
--- a gauge that bars nothing carries a sum and a number of steps, held by a length, across a step, while the sum is below 2^64
-pub record Carries {L : Type 0} (kind : Kind L) (g : Crossing L) (units : Step → ℕ) (held : ℕ → ℕ → L) : Type 0 where
+-- a gauge that bars nothing carries a sum and a number of steps, held by a length, across a step,
+-- while the sum is below 2^64
+pub record Carries {L R : Type 0} (kind : Kind L R) (g : Crossing L) (units : Step → ℕ)
+    (held : ℕ → ℕ → L) : Type 0 where
   pub start : kind.zero ≡ held 0 0
   pub unbarred : (s : Step) → g.barred s ≡ false
-  pub adds : (s : Step) (n k : ℕ) → k ≤ n → n + units s < 2 ^ 64 → g.carried s (held n k) ≡ held (n + units s) (suc k)
-
-abbrev measuring_by : {L : Type 0} → Kind L → Crossing L → Board → ℕ → Measuring L
-measuring_by kind g b group = record { kind = kind; gauge = g; board = b; group = group }
+  pub adds : (s : Step) (n k : ℕ) → k ≤ n → n + units s < 2 ^ 64 →
+      g.carried s (held n k) ≡ held (n + units s) (suc k)
 
 -- a list that has a sum is a path, whose length holds the sum and the steps while the sum is below 2^64
 record Summed {L : Type 0} (held : ℕ → ℕ → L) (found : Option L) (n k : ℕ) : Type 0 where
@@ -36,8 +36,11 @@ record Summed {L : Type 0} (held : ℕ → ℕ → L) (found : Option L) (n k : 
   pub is : found ≡ Some length
   pub exact : n < 2 ^ 64 → length ≡ held n k
 
-module _ {L : Type 0} {kind : Kind L} {g : Crossing L} {units : Step → ℕ} {held : ℕ → ℕ → L} (carries : Carries kind g units held) (moderate : Moderate units) (b : Board) (fitting : Fitting b) (group : ℕ) where
-  path_of_sum : (j : ℕ) (cells : List ℕ) (n : ℕ) → plain_sum units b group (j ∷ cells) ≡ Some n → Summed held (path_length (measuring_by kind g b group) (j ∷ cells)) n (length cells)
+module _ {L R : Type 0} {kind : Kind L R} {g : Crossing L} {units : Step → ℕ} {held : ℕ → ℕ → L}
+    (carries : Carries kind g units held) (moderate : Moderate units) (b : Board)
+    (fitting : Fitting b) (group : ℕ) where
+  path_of_sum : (j : ℕ) (cells : List ℕ) (n : ℕ) → plain_sum units b group (j ∷ cells) ≡ Some n →
+      Summed held (path_length (measuring kind g b group) (j ∷ cells)) n (length cells)
   path_of_sum j [] n e =
       let start = source_sum (eqb (source_of b group j) 0) 0 n e in
       record {
@@ -52,7 +55,7 @@ module _ {L : Type 0} {kind : Kind L} {g : Crossing L} {units : Step → ℕ} {h
       let before = path_of_sum i cells parts.sum parts.before_is in
       record {
         length = g.carried s before.length;
-        is = ap (onward (measuring_by kind g b group) i j) before.is ∙ cond-true _ _ _ parts.taken ∙ cond-false _ _ _ (carries.unbarred s);
+        is = ap (onward (measuring kind g b group) i j) before.is ∙ cond-true _ _ _ parts.taken ∙ cond-false _ _ _ (carries.unbarred s);
         exact = λ fits.
             ap (g.carried s) (before.exact (omega arith))
             ∙ carries.adds s parts.sum (length cells) bounds.least (omega arith)
@@ -60,19 +63,23 @@ module _ {L : Type 0} {kind : Kind L} {g : Crossing L} {units : Step → ℕ} {h
       }
 
   -- and every path has a sum
-  sum_of_path : (j : ℕ) (cells : List ℕ) (a : L) → path_length (measuring_by kind g b group) (j ∷ cells) ≡ Some a → (n : ℕ) × (plain_sum units b group (j ∷ cells) ≡ Some n)
+  sum_of_path : (j : ℕ) (cells : List ℕ) (a : L) → path_length (measuring kind g b group)
+      (j ∷ cells) ≡ Some a → (n : ℕ) × (plain_sum units b group (j ∷ cells) ≡ Some n)
   sum_of_path j [] a e = (0, cond-false _ _ _ (source_sum (eqb (source_of b group j) 0) kind.zero a e).0)
   sum_of_path j (i ∷ cells) a e =
-      let parts = path_parts (measuring_by kind g b group) i j cells a e in
+      let parts = path_parts (measuring kind g b group) i j cells a e in
       let before = sum_of_path i cells parts.0 parts.1 in
       (before.0 + units (step b i j), cond-true _ _ _ parts.2.near ∙ ap (plus (units (step b i j))) before.1)
 
-then_short : (j n : ℕ) (o : Option (List ℕ)) (cells : List ℕ) → ((rest : List ℕ) → o ≡ Some rest → length rest ≤ n) → then j o ≡ Some cells → length cells ≤ suc n
+then_short : (j n : ℕ) (o : Option (List ℕ)) (cells : List ℕ) →
+    ((rest : List ℕ) → o ≡ Some rest → length rest ≤ n) → then j o ≡ Some cells →
+    length cells ≤ suc n
 then_short j n None cells short e = absurd (grind arith)
 then_short j n (Some rest) cells short e = let same : j ∷ rest ≡ cells = cc in omega (arith, ap length same, short rest refl)
 
 -- a way within n cells has at most n
-pub way_short : {R : Type 0} (row : R) (map : List (MapRecord R)) (n j : ℕ) (cells : List ℕ) → way_within row map n j ≡ Some cells → length cells ≤ n
+pub way_short : {R : Type 0} (row : R) (map : List (MapRecord R)) (n j : ℕ) (cells : List ℕ) →
+    way_within row map n j ≡ Some cells → length cells ≤ n
 unfolding way_within
 way_short row map zero j cells e = absurd (grind arith)
 way_short row map (suc n) j cells e =
@@ -82,49 +89,51 @@ way_short row map (suc n) j cells e =
     (λ _ more. then_short j n (way_within row map n here.link) cells (way_short row map n here.link) more)
     (taken_some here.reached _ cells e).1
 
-module _ {L R : Type 0} {kind : Kind L} {rows : Rows L R} (laws : KindLaws kind rows) where
-  record_kept : (ranked : List (Bid L)) (j : ℕ) → rows.encode (rows.decode (record_at kind rows ranked j).length) ≡ (record_at kind rows ranked j).length
+module _ {L R : Type 0} {kind : Kind L R} (laws : KindLaws kind) where
+  record_kept : (ranked : List (Bid L)) (j : ℕ) →
+      kind.encode (kind.decode (record_at kind ranked j).length) ≡ (record_at kind ranked j).length
   unfolding record_at
-  record_kept [] j = ap rows.encode (laws.same kind.zero)
+  record_kept [] j = ap kind.encode (laws.same kind.zero)
   record_kept (r ∷ ranked) j =
-      cond_both (eqb r.cell j) (ranked_record rows (length ranked) r) (record_at kind rows ranked j) (λ x. rows.encode (rows.decode x.length) ≡ x.length)
-      (λ _. ap rows.encode (laws.same r.length))
+      cond_both (eqb r.cell j) (ranked_record kind (length ranked) r) (record_at kind ranked j) (λ x. kind.encode (kind.decode x.length) ≡ x.length)
+      (λ _. ap kind.encode (laws.same r.length))
       (λ _. record_kept ranked j)
 
   -- a row of the measured map is that of the length that it is read as
   pub row_kept : (g : Crossing L) (b : Board) (group j : ℕ) → j < area b.size →
-      let row = (measured rows (measuring_by kind g b group) j).length in
-      rows.encode (rows.decode row) ≡ row
+      let row = (measured_record (measuring kind g b group) j).length in
+      kind.encode (kind.decode row) ≡ row
   unfolding measured_map
   row_kept g b group j within =
-      let m = measuring_by kind g b group in
-      subst (λ x. rows.encode (rows.decode x.length) ≡ x.length)
-      (sym (get_or-map-range_with_len (record_at kind rows (ranking m)) 0 (area b.size) j j _ within (omega arith)))
+      let m = measuring kind g b group in
+      subst (λ x. kind.encode (kind.decode x.length) ≡ x.length)
+      (sym (get_or-map-range_with_len (record_at kind (ranking m)) 0 (area b.size) j j _ within (omega arith)))
       (record_kept (ranking m) j)
 
-when_from : {P Q : Type 0} (t : Bool) → (t ≡ true → P) → (t ≡ false → Q) → MatchBool t P Q
-when_from true yes-so no-so = yes-so refl
-when_from false yes-so no-so = no-so refl
-
 -- a list to the cell whose sum and steps the row holds, and no list to it is shorter as a length
-pub record Found {L R : Type 0} (kind : Kind L) (rows : Rows L R) (held : ℕ → ℕ → L) (units : Step → ℕ) (b : Board) (group j : ℕ) (row : R) : Type 0 where
+pub record Found {L R : Type 0} (kind : Kind L R) (held : ℕ → ℕ → L) (units : Step → ℕ) (b : Board)
+    (group j : ℕ) (row : R) : Type 0 where
   pub cells : List ℕ
   pub total : ℕ
   pub sum : plain_sum units b group (j ∷ cells) ≡ Some total
   pub steps : length cells ≤ total
   pub small : total < 2 ^ 40
-  pub row_is : row ≡ rows.encode (held total (length cells))
-  pub least : (others : List ℕ) (k : ℕ) → plain_sum units b group (j ∷ others) ≡ Some k → k < 2 ^ 64 → kind.le (held total (length cells)) (held k (length others)) ≡ true
+  pub row_is : row ≡ kind.encode (held total (length cells))
+  pub least : (others : List ℕ) (k : ℕ) → plain_sum units b group (j ∷ others) ≡ Some k →
+      k < 2 ^ 64 → kind.le (held total (length cells)) (held k (length others)) ≡ true
 
 -- what follows from such a list holds of a reached cell's row, and no list ends at an unreached cell
-pub by_lists : {L R : Type 0} {kind : Kind L} {rows : Rows L R} → KindLaws kind rows → {g : Crossing L} → Lawful kind g → {units : Step → ℕ} {held : ℕ → ℕ → L} → Carries kind g units held → Moderate units → (b : Board) → Fitting b → (group j : ℕ) → j < area b.size → (P : R → Type 0) → ((row : R) → Found kind rows held units b group j row → P row) →
-    let here = measured rows (record { kind = kind; gauge = g; board = b; group = group }) j in
+pub by_lists : {L R : Type 0} {kind : Kind L R} → KindLaws kind → {g : Crossing L} → Lawful kind g →
+    {units : Step → ℕ} {held : ℕ → ℕ → L} → Carries kind g units held → Moderate units →
+    (b : Board) → Fitting b → (group j : ℕ) → j < area b.size → (P : R → Type 0) →
+    ((row : R) → Found kind held units b group j row → P row) →
+    let here = measured_record (measuring kind g b group) j in
     MatchBool here.reached (P here.length) (NoList units b group j)
-by_lists {kind = kind} {rows = rows} laws {g = g} lawful {units = units} {held = held} carries moderate b fitting group j within P follows =
-    let m = measuring_by kind g b group in
+by_lists {kind = kind} laws {g = g} lawful {units = units} {held = held} carries moderate b fitting group j within P follows =
+    let m = measuring kind g b group in
     let paths = path_of_sum carries moderate b fitting group j in
     let lengths = least_lengths laws g lawful b fitting group j within in
-    when_from (measured rows m j).reached
+    when_cases (measured_record m j).reached
     (λ reached.
     let way = links_are_ways laws g lawful b fitting group j reached in
     let shortest = when_true _ _ reached lengths in
@@ -134,14 +143,14 @@ by_lists {kind = kind} {rows = rows} laws {g = g} lawful {units = units} {held =
     let small : sum.0 < 2 ^ 40 = omega (arith, area_bound b.size) in
     let own = paths way.cells sum.0 sum.1 in
     let exact = own.exact (omega arith) in
-    let held-is : rows.decode (measured rows m j).length ≡ held sum.0 (length way.cells) = cc in
-    follows (measured rows m j).length (record {
+    let held-is : kind.decode (measured_record m j).length ≡ held sum.0 (length way.cells) = cc in
+    follows (measured_record m j).length (record {
       cells = way.cells;
       total = sum.0;
       sum = sum.1;
       steps = bounds.least;
       small = small;
-      row_is = sym (row_kept laws g b group j within) ∙ ap rows.encode held-is;
+      row_is = sym (row_kept laws g b group j within) ∙ ap kind.encode held-is;
       least = λ others k e fits.
           let other = paths others k e in
           subst₂ (λ x y. kind.le x y ≡ true) held-is (other.exact fits) (shortest.least others other.length other.is);

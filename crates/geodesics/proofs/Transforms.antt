@@ -2,25 +2,27 @@
 use Rattle.std.proofs.Common.{◌≡◌, ℕ, ◌+◌, ◌^◌, ◌<◌, ◌≤◌, true, length, Some, sym, refl, ap, ◌∙◌, ⊎_elim, arith}
 use Rattle.std.proofs.lemmas.Bool.{cases_lt, cond-true, lt-ltb}
 use Rattle.std.proofs.lemmas.Bool.Decides.{nat_tests}
-use Rattle.lengths.specs.Kinds.{Kind, Rows}
+use Rattle.lengths.specs.Kinds.{Kind}
 use Rattle.lengths.specs.Wholes.{whole, whole_kind}
 use Rattle.lengths.specs.Counteds.{counted, counted_kind}
 use Rattle.lengths.specs.WholeLaws.{same_units, whole_laws}
 use Rattle.lengths.specs.CountedLaws.{same_counts, counted_laws}
-use Rattle.gauges.specs.Steps.{Genuine, reversed}
 use Rattle.gauges.specs.Meanings.{adding}
 use Rattle.gauges.specs.Rulers.{whole_ruling, counted_chessboard, chessboard_units}
 use Rattle.gauges.specs.declared.step.Step.{Step}
-use Rattle.gauges.specs.Reverses.{rise_back, edge_back}
 use Rattle.gauges.specs.RulerLaw.{whole_gauge, counted_gauge}
 use Rattle.measuring.specs.Boards.{Board}
 use Rattle.geodesics.specs.Transform.{LeastSum, FewestSteps, Transforms, CountedTransforms, PublishedTransform}
 use Rattle.geodesics.proofs.PlainSums.{Moderate}
 use Rattle.geodesics.proofs.SummedPaths.{Carries, Found, by_lists}
-use Rattle.geodesics.proofs.Formulas.{chessboard_moderate, three_four_moderate, euclid_moderate}
+use Rattle.geodesics.proofs.Formulas.{Alike, chessboard_alike, chessboard_moderate, euclid_alike, euclid_moderate, three_four_alike, three_four_moderate}
 
--- where lengths go by their units first, what was found has the least sum: a sum of 2^64 or more is larger anyway
-least_sum : {L R : Type 0} {kind : Kind L} {rows : Rows L R} {held : ℕ → ℕ → L} {units : Step → ℕ} {b : Board} {group j : ℕ} {row : R} → ((n k n' k' : ℕ) → n < 2 ^ 64 → n' < 2 ^ 64 → kind.le (held n k) (held n' k') ≡ true → n ≤ n') → (f : Found kind rows held units b group j row) (n : ℕ) → n ≡ f.total → LeastSum units b group j n
+-- where lengths go by their units first, what was found has the least sum: a sum of 2^64 or more is
+-- larger anyway
+least_sum : {L R : Type 0} {kind : Kind L R} {held : ℕ → ℕ → L} {units : Step → ℕ} {b : Board}
+    {group j : ℕ} {row : R} →
+    ((n k n' k' : ℕ) → n < 2 ^ 64 → n' < 2 ^ 64 → kind.le (held n k) (held n' k') ≡ true → n ≤ n') →
+    (f : Found kind held units b group j row) (n : ℕ) → n ≡ f.total → LeastSum units b group j n
 least_sum by_units f n is = record {
   cells = f.cells;
   sum = f.sum ∙ ap Some (sym is);
@@ -32,17 +34,19 @@ least_sum by_units f n is = record {
   small = omega (arith, f.small);
 }
 
-whole_carries : (units : Step → ℕ) → Carries whole_kind (adding (whole_ruling units)) units (λ n _. whole n)
+whole_carries : (units : Step → ℕ) →
+    Carries whole_kind (adding (whole_ruling units)) units (λ n _. whole n)
 whole_carries units = record {
   start = refl;
   unbarred = λ _. refl;
   adds = λ s n k _ _. same_units _ _ (omega arith);
 }
 
-whole_by_units : (n n' : ℕ) → n < 2 ^ 64 → n' < 2 ^ 64 → whole_kind.le (whole n) (whole n') ≡ true → n ≤ n'
+whole_by_units : (n n' : ℕ) → n < 2 ^ 64 → n' < 2 ^ 64 → whole_kind.le (whole n) (whole n') ≡ true →
+    n ≤ n'
 whole_by_units n n' fits fits' le = grind (arith, nat_tests)
 
-whole_transforms : {units : Step → ℕ} → Moderate units → ((s : Step) → Genuine s → units (reversed s) ≡ units s) → Transforms units
+whole_transforms : {units : Step → ℕ} → Moderate units → Alike units → Transforms units
 whole_transforms {units} moderate alike b fitting group j within =
     by_lists whole_laws (whole_gauge units alike) (whole_carries units) moderate b fitting group j within
     (LeastSum units b group j)
@@ -57,11 +61,13 @@ counted_carries = record {
       cond-true _ _ _ (lt-ltb _ _ below) ∙ same_counts _ _ (omega arith) (omega arith);
 }
 
-counted_by_units : (n k n' k' : ℕ) → n < 2 ^ 64 → n' < 2 ^ 64 → counted_kind.le (counted n k) (counted n' k') ≡ true → n ≤ n'
+counted_by_units : (n k n' k' : ℕ) → n < 2 ^ 64 → n' < 2 ^ 64 → counted_kind.le (counted n k)
+    (counted n' k') ≡ true → n ≤ n'
 counted_by_units n k n' k' fits fits' le = grind (arith, nat_tests)
 
 -- lengths with the same units go by their steps
-counted_by_steps : (n k k' : ℕ) → n < 2 ^ 64 → k ≤ n → counted_kind.le (counted n k) (counted n k') ≡ true → k ≤ k'
+counted_by_steps : (n k k' : ℕ) → n < 2 ^ 64 → k ≤ n → counted_kind.le (counted n k)
+    (counted n k') ≡ true → k ≤ k'
 counted_by_steps n k k' fits few le = grind (arith, nat_tests)
 
 counted_transforms : CountedTransforms
@@ -86,8 +92,8 @@ counted_transforms b fitting group j within =
 
 pub published_transform : PublishedTransform
 published_transform = record {
-  chessboard = whole_transforms chessboard_moderate (λ s _. rw (rise_back s));
-  three_four = λ w light. whole_transforms (three_four_moderate w light) (λ s _. rw (rise_back s, edge_back s));
-  euclid = whole_transforms euclid_moderate (λ s _. rw (rise_back s, edge_back s));
+  chessboard = whole_transforms chessboard_moderate chessboard_alike;
+  three_four = λ w light. whole_transforms (three_four_moderate w light) (three_four_alike w);
+  euclid = whole_transforms euclid_moderate euclid_alike;
   counted = counted_transforms;
 }

@@ -1,4 +1,5 @@
 pub mod Fitting
+pub mod FourRulers
 pub mod Least
 pub mod Unique
 pub mod Transform

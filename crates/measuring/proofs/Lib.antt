@@ -1,5 +1,7 @@
-pub mod HowMany
+pub mod Sums
+pub mod Before
 pub mod Ranked
 pub mod Tracks
 pub mod Places
+pub mod Maps
 pub mod Turns

@@ -1,65 +1,43 @@
 -- Which offers a walk over the rows around a cell can leave out. Assumes nothing.
-use Rattle.std.proofs.Common.{◌≡◌, ℕ, ◌+◌, ◌-◌, ◌*◌, ◌/◌, ◌%◌, ◌<◌, ◌≤◌, min, Bool, true, false, cond, not, ◌&&◌, ◌||◌, eqb, ◌⊎◌, List, None, Option, sym, refl, ap, ◌∙◌, inl, inr, ⊎_elim, arith}
+use Rattle.std.proofs.Common.{◌≡◌, ℕ, ◌+◌, ◌-◌, ◌*◌, ◌/◌, ◌%◌, ◌<◌, min, Bool, true, false, cond, not, ◌&&◌, ◌||◌, eqb, ◌⊎◌, List, None, Option, sym, refl, ap, ◌∙◌, inl, inr, ⊎_elim, arith}
 use Rattle.std.proofs.lemmas.Nat.{div-add-mod', div_below, div-mul-add, mod_below, mod-mul-add}
-use Rattle.std.proofs.lemmas.Bool.{and_from, and_left, and_right, cases_eq, cases_lt, cond_both, cond-false, cond-true}
+use Rattle.std.proofs.lemmas.Bool.{cases_eq, cases_lt, cond_both, cond-false, cond-true}
 use Rattle.std.proofs.lemmas.Bool.Decides.{nat_tests}
-use Rattle.std.proofs.Math.Bool.{and-true}
-use Rattle.board.specs.Sizes.{area}
+use Rattle.board.specs.Sizes.{area, cell_at}
 use Rattle.board.specs.declared.cell.Cell.{Cell}
-use Rattle.board.specs.declared.size.Size.{Size}
 use Rattle.board.specs.declared.record.MapRecord.{MapRecord}
-use Rattle.lengths.specs.Kinds.{Kind, Rows}
+use Rattle.lengths.specs.Kinds.{Kind}
 use Rattle.queue.specs.declared.offer.Offer.{Offer}
 use Rattle.gauges.specs.Meanings.{Crossing, crossed}
 use Rattle.gauges.specs.declared.step.Point.{Point}
 use Rattle.measuring.specs.Boards.{Board, cell, open_neighbour, open_neighbours, point}
 use Rattle.measuring.specs.Paths.{Measuring, measuring}
 use Rattle.measuring.specs.Rankings.{Bid, offer, offered}
-use Rattle.measuring.specs.Tracking.{Tracks, View, across, raised, before, counted_before, offered_before, offerer, updated}
+use Rattle.measuring.specs.Sums.{before}
+use Rattle.measuring.specs.Tracking.{Beside, View, Walked, across, raised, counted_before, offered_before, offerer, updated}
 use Rattle.measuring.specs.declared.offers.Offerer.{Offerer}
-use Rattle.measuring.proofs.HowMany.{how_many_none, how_many_one_more, how_many_same}
+use Rattle.measuring.proofs.Before.{before_all, before_none, before_not_here, before_other, before_then, sum_before_all, sum_before_more, sum_before_none, sum_before_skips}
 use Rattle.measuring.proofs.Tracks.{tracks_same}
-
-module _ (size : Size) (row column : ℕ) where
-  abbrev place : ℕ
-  place = row * size.columns + column
-
-  before_not_here : column < size.columns → before size row column place ≡ false
-  before_not_here within =
-      let q = div-mul-add row size.columns column within in
-      let r = mod-mul-add row size.columns column within in
-      grind (arith, nat_tests)
-
-  before_then : column < size.columns → before size row (column + 1) place ≡ true
-  before_then within =
-      let q = div-mul-add row size.columns column within in
-      let r = mod-mul-add row size.columns column within in
-      grind (arith, nat_tests)
-
-  before_other : (j : ℕ) → column < size.columns → (j ≡ place → ⊥) → before size row (column + 1) j ≡ before size row column j
-  before_other j within other =
-      let whole = div-add-mod' j size.columns in
-      let apart : (j / size.columns ≡ row) → (j % size.columns ≡ column) → ⊥ = λ q r. other (sym whole ∙ (λ i. q i * size.columns + r i)) in
-      ⊎_elim
-      (λ q. ⊎_elim (λ r. absurd (apart q r)) (λ r. grind (arith, nat_tests)) (cases_eq (j % size.columns) column))
-      (λ q. grind (arith, nat_tests))
-      (cases_eq (j / size.columns) row)
 
 -- from one place to a later one there is no open neighbour of the cell
 abbrev pub Skips : Board → ℕ → ℕ → ℕ → ℕ → ℕ → Type 0
 Skips b i row column row' column' =
-    (j : ℕ) → j < area b.size → (before b.size row column j ≡ before b.size row' column' j) ⊎ (open_neighbour b i j ≡ false)
+    (j : ℕ) → j < area b.size →
+    (before b.size row column j ≡ before b.size row' column' j) ⊎ (open_neighbour b i j ≡ false)
 
-counted_skips : (b : Board) (i row column row' column' : ℕ) → Skips b i row column row' column' → counted_before b i row column ≡ counted_before b i row' column'
+counted_skips : (b : Board) (i row column row' column' : ℕ) → Skips b i row column row' column' →
+    counted_before b i row column ≡ counted_before b i row' column'
 counted_skips b i row column row' column' skips =
-    how_many_same _ _ _ (λ j lt.
-    ⊎_elim (λ e. ap (λ t. open_neighbour b i j && t) e) (λ isnt. and_left _ _ isnt ∙ sym (and_left _ _ isnt)) (skips j lt))
+    sum_before_skips (λ j. cond (open_neighbour b i j) 1 0) b.size row column row' column'
+    (λ j lt. ⊎_elim inl (λ isnt. inr (ap (λ t. cond t 1 0) isnt)) (skips j lt))
 
-module _ {L : Type 0} (m : Measuring L) (x : Bid L) (view : ℕ → View L) where
+module _ {L R : Type 0} (m : Measuring L R) (x : Bid L) (view : ℕ → View L) where
   no_offer : (j : ℕ) → open_neighbour m.board x.cell j ≡ false → offer m x j ≡ None
   no_offer j isnt = ap (offered x j) (cond-false _ _ _ isnt)
 
-  offered_skips : (row column row' column' : ℕ) → Skips m.board x.cell row column row' column' → (j : ℕ) → j < area m.board.size → offered_before m x view row column j ≡ offered_before m x view row' column' j
+  offered_skips : (row column row' column' : ℕ) → Skips m.board x.cell row column row' column' →
+      (j : ℕ) → j < area m.board.size →
+      offered_before m x view row column j ≡ offered_before m x view row' column' j
   offered_skips row column row' column' skips j lt =
       ⊎_elim
       (λ e. ap (λ t. cond t (raised m.kind (view j) (offer m x j)) (view j)) e)
@@ -69,22 +47,24 @@ module _ {L : Type 0} (m : Measuring L) (x : Bid L) (view : ℕ → View L) wher
       stays _ ∙ sym (stays _))
       (skips j lt)
 
--- from one place to another a cell has made its offers: so many steps are counted, and the map and the queue hold the offers
-pub record Walked {L R : Type 0} (rows : Rows L R) (m : Measuring L) (from : Offerer L) (row column row' column' steps : ℕ) (map : List (MapRecord R)) (es : List (Offer R)) (map' : List (MapRecord R)) (es' : List (Offer R)) : Type 0 where
-  pub counts : counted_before m.board from.number row column + steps ≡ counted_before m.board from.number row' column'
-  pub tracks : (view : ℕ → View L) → 0 < from.pad → Tracks m.kind rows (area m.board.size) (offered_before m (offerer from) view row column) map es → Tracks m.kind rows (area m.board.size) (offered_before m (offerer from) view row' column') map' es'
-
-module _ {L R : Type 0} {rows : Rows L R} {m : Measuring L} {from : Offerer L} {row column : ℕ} {map : List (MapRecord R)} {es : List (Offer R)} where
-  pub stood : Walked rows m from row column row column 0 map es map es
+module _ {L R : Type 0} {m : Measuring L R} {from : Offerer L} {row column : ℕ}
+    {map : List (MapRecord R)} {es : List (Offer R)} where
+  pub stood : Walked m from row column row column 0 map es map es
   stood = record { counts = omega arith; tracks = λ view pad t. t }
 
-  pub skipped : {row' column' row'' column'' steps : ℕ} {map' : List (MapRecord R)} {es' : List (Offer R)} → Walked rows m from row column row' column' steps map es map' es' → Skips m.board from.number row' column' row'' column'' → Walked rows m from row column row'' column'' steps map es map' es'
+  pub skipped : {row' column' row'' column'' steps : ℕ} {map' : List (MapRecord R)}
+      {es' : List (Offer R)} → Walked m from row column row' column' steps map es map' es' →
+      Skips m.board from.number row' column' row'' column'' →
+      Walked m from row column row'' column'' steps map es map' es'
   skipped walked skips = record {
     counts = walked.counts ∙ counted_skips m.board from.number _ _ _ _ skips;
     tracks = λ view pad t. tracks_same (offered_skips m (offerer from) view _ _ _ _ skips) (walked.tracks view pad t);
   }
 
-  pub walked_on : {row' column' row'' column'' steps more : ℕ} {map' map'' : List (MapRecord R)} {es' es'' : List (Offer R)} → Walked rows m from row column row' column' steps map es map' es' → Walked rows m from row' column' row'' column'' more map' es' map'' es'' → Walked rows m from row column row'' column'' (steps + more) map es map'' es''
+  pub walked_on : {row' column' row'' column'' steps more : ℕ} {map' map'' : List (MapRecord R)}
+      {es' es'' : List (Offer R)} → Walked m from row column row' column' steps map es map' es' →
+      Walked m from row' column' row'' column'' more map' es' map'' es'' →
+      Walked m from row column row'' column'' (steps + more) map es map'' es''
   walked_on walked then = record {
     counts = omega (arith, walked.counts, then.counts);
     tracks = λ view pad t. then.tracks view pad (walked.tracks view pad t);
@@ -113,22 +93,28 @@ module _ (b : Board) (i : ℕ) where
       ⊎_elim (λ above. inl (grind (arith, nat_tests))) (λ below. inr (grind (arith, nat_tests))) (cases_lt (j / columns) end)
 
   -- the place itself, where it is no open neighbour
-  pub skips_one : (row column : ℕ) → column < columns → open_neighbour b i (row * columns + column) ≡ false → Skips b i row column row (column + 1)
+  pub skips_one : (row column : ℕ) → column < columns →
+      open_neighbour b i (cell_at b.size row column) ≡ false → Skips b i row column row (column + 1)
   skips_one row column within isnt j lt =
       ⊎_elim
       (λ is. inr (ap (open_neighbour b i) is ∙ isnt))
       (λ other. inl (sym (before_other b.size row column j within other)))
-      (cases_eq j (row * columns + column))
+      (cases_eq j (cell_at b.size row column))
 
-  pub counted_one : (row column : ℕ) → column < columns → row * columns + column < area b.size → open_neighbour b i (row * columns + column) ≡ true → counted_before b i row column + 1 ≡ counted_before b i row (column + 1)
+  pub counted_one : (row column : ℕ) → column < columns → cell_at b.size row column < area b.size →
+      open_neighbour b i (cell_at b.size row column) ≡ true →
+      counted_before b i row column + 1 ≡ counted_before b i row (column + 1)
   counted_one row column within lt is =
-      sym (how_many_one_more _ _ _ (row * columns + column) lt
-      (and_right _ _ (before_not_here b.size row column within))
-      (and_from _ _ is (before_then b.size row column within))
-      (λ j below other. ap (λ t. open_neighbour b i j && t) (before_other b.size row column j within other)))
+      sym (
+      sum_before_more (λ j. cond (open_neighbour b i j) 1 0) b.size row column within lt ∙
+      ap (λ t. counted_before b i row column + cond t 1 0) is)
 
 -- after an offer to the place, all before the next place are made
-pub offered_one : {L : Type 0} (m : Measuring L) (x : Bid L) (view : ℕ → View L) (row column : ℕ) (o : Option (Bid L)) → column < m.board.size.columns → o ≡ offer m x (row * m.board.size.columns + column) → (j : ℕ) → updated (offered_before m x view row column) (row * m.board.size.columns + column) (raised m.kind (offered_before m x view row column (row * m.board.size.columns + column)) o) j ≡ offered_before m x view row (column + 1) j
+pub offered_one : {L R : Type 0} (m : Measuring L R) (x : Bid L) (view : ℕ → View L) (row column : ℕ)
+    (o : Option (Bid L)) → column < m.board.size.columns →
+    o ≡ offer m x (cell_at m.board.size row column) → (j : ℕ) →
+    updated (offered_before m x view row column) (cell_at m.board.size row column)
+    (raised m.kind (offered_before m x view row column (cell_at m.board.size row column)) o) j ≡ offered_before m x view row (column + 1) j
 offered_one m x view row column o within made j =
     let size = m.board.size in
     ⊎_elim
@@ -137,12 +123,12 @@ offered_one m x view row column o within made j =
     let then = before_then size row column within in
     grind (arith, nat_tests))
     (λ other. let same = before_other size row column j within other in grind (arith, nat_tests))
-    (cases_eq j (row * size.columns + column))
+    (cases_eq j (cell_at size row column))
 
 -- the place beside a cell: it is an open neighbour unless it is the cell itself or barred
 module _ (b : Board) (i row column : ℕ) (within : column < b.size.columns) where
   abbrev beside : ℕ
-  beside = row * b.size.columns + column
+  beside = cell_at b.size row column
 
   -- the place has the cell's number exactly where it is the cell's
   pub numbered : (at : Point) → at ≡ point b i → eqb beside i ≡ (eqb row at.row && eqb column at.column)
@@ -162,7 +148,9 @@ module _ (b : Board) (i row column : ℕ) (within : column < b.size.columns) whe
       (cases_eq (i / b.size.columns) row))
       (cases_eq beside i)
 
-  pub beside_is : (at : Point) (x : Cell) (passed : Bool) → at ≡ point b i → cell b beside ≡ x → (row ≤ at.row + 1) × ((at.row ≤ row + 1) × ((column ≤ at.column + 1) × (at.column ≤ column + 1))) → beside < area b.size → passed ≡ (eqb beside i || x.barred) → open_neighbour b i beside ≡ not passed
+  pub beside_is : (at : Point) (x : Cell) (passed : Bool) → at ≡ point b i → cell b beside ≡ x →
+      Beside at row column → beside < area b.size → passed ≡ (eqb beside i || x.barred) →
+      open_neighbour b i beside ≡ not passed
   beside_is at x passed placed read near on-board told =
       let q = div-mul-add row b.size.columns column within in
       let r = mod-mul-add row b.size.columns column within in
@@ -170,13 +158,17 @@ module _ (b : Board) (i row column : ℕ) (within : column < b.size.columns) whe
       let column_is = ap (λ p. p.column) placed in
       let same = numbered at placed in
       let barred_is = ap (λ y. y.barred) read in
-      let above = near.0 in
-      let below = near.1.0 in
-      let left = near.1.1.0 in
-      let right = near.1.1.1 in
+      let above = near.above in
+      let below = near.below in
+      let left = near.left in
+      let right = near.right in
       grind (arith, nat_tests)
 
-  pub across_is : {L : Type 0} (kind : Kind L) (g : Crossing L) (group : ℕ) (from : Offerer L) (height : ℕ) → from.number ≡ i → from.at ≡ point b i → height ≡ (cell b beside).height → open_neighbour b i beside ≡ true → across g from (record { row = row; column = column; height = height }) beside ≡ offer (measuring kind g b group) (offerer from) beside
+  pub across_is : {L R : Type 0} (kind : Kind L R) (g : Crossing L) (group : ℕ) (from : Offerer L)
+      (height : ℕ) → from.number ≡ i → from.at ≡ point b i → height ≡ (cell b beside).height →
+      open_neighbour b i beside ≡ true →
+      across g from (record { row = row; column = column; height = height }) beside ≡ offer (measuring kind g b group)
+      (offerer from) beside
   across_is kind g group from height number at high opens =
       let q = sym (div-mul-add row b.size.columns column within) in
       let r = sym (mod-mul-add row b.size.columns column within) in
@@ -185,24 +177,16 @@ module _ (b : Board) (i row column : ℕ) (within : column < b.size.columns) whe
       sym (cond-true (open_neighbour b from.number beside) _ None (ap (λ n. open_neighbour b n beside) number ∙ opens))
       )
 
--- before the first row is nothing, and before the row below the last one everything
-before_none : (size : Size) (j : ℕ) → before size 0 0 j ≡ false
-before_none size j = grind (arith, nat_tests)
-
-before_all : (size : Size) (j : ℕ) → j < area size → before size size.rows 0 j ≡ true
-before_all size j lt =
-    let within = div_below j size.columns size.rows size.some_columns lt in
-    grind (arith, nat_tests)
-
 pub counted_none : (b : Board) (i : ℕ) → counted_before b i 0 0 ≡ 0
-counted_none b i = how_many_none _ _ (λ j lt. and_right _ _ (before_none b.size j))
+counted_none b i = sum_before_none _ b.size
 
 pub counted_all : (b : Board) (i : ℕ) → counted_before b i b.size.rows 0 ≡ open_neighbours b i
-counted_all b i = how_many_same _ _ _ (λ j lt. ap (λ t. open_neighbour b i j && t) (before_all b.size j lt) ∙ and-true (open_neighbour b i j))
+counted_all b i = sum_before_all _ b.size
 
-module _ {L : Type 0} (m : Measuring L) (x : Bid L) (view : ℕ → View L) where
+module _ {L R : Type 0} (m : Measuring L R) (x : Bid L) (view : ℕ → View L) where
   pub offered_none : (j : ℕ) → view j ≡ offered_before m x view 0 0 j
   offered_none j = sym (cond-false _ _ _ (before_none m.board.size j))
 
-  pub offered_all : (j : ℕ) → j < area m.board.size → offered_before m x view m.board.size.rows 0 j ≡ raised m.kind (view j) (offer m x j)
+  pub offered_all : (j : ℕ) → j < area m.board.size →
+      offered_before m x view m.board.size.rows 0 j ≡ raised m.kind (view j) (offer m x j)
   offered_all j lt = cond-true _ _ _ (before_all m.board.size j lt)

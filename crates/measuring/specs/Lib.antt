@@ -1,9 +1,11 @@
+pub mod Sums
 pub mod Boards
 pub mod Paths
 pub mod Rankings
 pub mod Rules
 pub mod Maps
+pub mod ByChessboard
 pub mod Ways
-pub mod Readings
+pub mod MapReadings
 pub mod Tracking
 pub mod Measurements

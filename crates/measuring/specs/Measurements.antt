@@ -8,5 +8,5 @@ use Rattle.measuring.specs.declared.measurement.Measurement.{Measurement}
 abbrev pub board_of : {G : Type 0} → Measurement G → Board
 board_of job = on job.size job.cells.now job.groups.now
 
-abbrev pub meant : {G L : Type 0} → Kind L → (G → Crossing L) → Measurement G → Measuring L
+abbrev pub meant : {G L R : Type 0} → Kind L R → (G → Crossing L) → Measurement G → Measuring L R
 meant kind crossing job = measuring kind (crossing job.gauge.now) (board_of job) job.group

@@ -5,8 +5,8 @@ use Rattle.lengths.specs.Kinds.{Kind}
 use Rattle.measuring.specs.Boards.{source_of}
 use Rattle.measuring.specs.Paths.{Measuring, onward}
 
--- an offer to a cell: a length, with the pad and the link that the cell takes with it. A ranked cell is the offer by which
--- it was ranked
+-- an offer to a cell: a length, with the pad and the link that the cell takes with it. A ranked
+-- cell is the offer by which it was ranked
 pub record Bid (L : Type 0) : Type 0 where
   pub cell : ℕ
   pub length : L
@@ -14,7 +14,7 @@ pub record Bid (L : Type 0) : Type 0 where
   pub link : ℕ
 
 -- a source starts with the offer zero: it has its own pad, and links to itself. No offer is shorter
-abbrev pub start : {L : Type 0} → Measuring L → ℕ → Option (Bid L)
+abbrev pub start : {L R : Type 0} → Measuring L R → ℕ → Option (Bid L)
 start m j =
     let pad = source_of m.board m.group j in
     cond (pad == 0) None (Some (record { cell = j; length = m.kind.zero; pad = pad; link = j }))
@@ -24,18 +24,20 @@ abbrev pub offered : {L : Type 0} → Bid L → ℕ → Option L → Option (Bid
 offered r j None = None
 offered r j (Some a) = Some (record { cell = j; length = a; pad = r.pad; link = r.cell })
 
--- a ranked cell offers each open neighbour its own length carried across the step, unless that is barred
-abbrev pub offer : {L : Type 0} → Measuring L → Bid L → ℕ → Option (Bid L)
+-- a ranked cell offers each open neighbour its own length carried across the step, unless that is
+-- barred
+abbrev pub offer : {L R : Type 0} → Measuring L R → Bid L → ℕ → Option (Bid L)
 offer m r j = offered r j (onward m r.cell j (Some r.length))
 
 -- the shorter of two offers, and the first of equals
-abbrev pub shorter : {L : Type 0} → Kind L → Option (Bid L) → Option (Bid L) → Option (Bid L)
+abbrev pub shorter : {L R : Type 0} → Kind L R → Option (Bid L) → Option (Bid L) → Option (Bid L)
 shorter kind x None = x
 shorter kind None (Some b) = Some b
 shorter kind (Some a) (Some b) = cond (kind.le a.length b.length) (Some a) (Some b)
 
--- the shortest offer to a cell, and of equals the first, once these cells are ranked, the last one first
-unfoldable pub best : {L : Type 0} → Measuring L → List (Bid L) → ℕ → Option (Bid L)
+-- the shortest offer to a cell, and of equals the first, once these cells are ranked, the last one
+-- first
+unfoldable pub best : {L R : Type 0} → Measuring L R → List (Bid L) → ℕ → Option (Bid L)
 best m [] j = start m j
 best m (r ∷ rs) j = shorter m.kind (best m rs j) (offer m r j)
 
@@ -44,12 +46,13 @@ is_ranked [] j = false
 is_ranked (r ∷ rs) j = r.cell == j || is_ranked rs j
 
 -- the shortest offer to an unranked cell below n, and of equals that to the lowest cell
-unfoldable pub next_below : {L : Type 0} → Measuring L → List (Bid L) → ℕ → Option (Bid L)
+unfoldable pub next_below : {L R : Type 0} → Measuring L R → List (Bid L) → ℕ → Option (Bid L)
 next_below m rs zero = None
-next_below m rs (suc n) = shorter m.kind (next_below m rs n) (cond (is_ranked rs n) None (best m rs n))
+next_below m rs (suc n) =
+    shorter m.kind (next_below m rs n) (cond (is_ranked rs n) None (best m rs n))
 
 -- the offer by which the next cell is ranked
-abbrev pub next : {L : Type 0} → Measuring L → List (Bid L) → Option (Bid L)
+abbrev pub next : {L R : Type 0} → Measuring L R → List (Bid L) → Option (Bid L)
 next m rs = next_below m rs (area m.board.size)
 
 -- one cell more, where there is one
@@ -58,10 +61,10 @@ and_one rs None = rs
 and_one rs (Some r) = r ∷ rs
 
 -- the first n cells that are ranked, or all where there are fewer, the last one first
-unfoldable pub first_ranked : {L : Type 0} → Measuring L → ℕ → List (Bid L)
+unfoldable pub first_ranked : {L R : Type 0} → Measuring L R → ℕ → List (Bid L)
 first_ranked m zero = []
 first_ranked m (suc n) = let rs = first_ranked m n in and_one rs (next m rs)
 
 -- all cells that are ranked
-abbrev pub ranking : {L : Type 0} → Measuring L → List (Bid L)
+abbrev pub ranking : {L R : Type 0} → Measuring L R → List (Bid L)
 ranking m = first_ranked m (area m.board.size)

@@ -11,10 +11,12 @@ abbrev pub then : ℕ → Option (List ℕ) → Option (List ℕ)
 then j None = None
 then j (Some cells) = Some (j ∷ cells)
 
--- the cells from j on along the links, up to the first that is linked to itself: reached cells, at most n of them; none
--- where there is no such way
+-- the cells from j on along the links, up to the first that is linked to itself: reached cells, at
+-- most n of them; none where there is no such way
 unfoldable pub way_within : {R : Type 0} → R → List (MapRecord R) → ℕ → ℕ → Option (List ℕ)
 way_within row map zero j = None
 way_within row map (suc n) j =
     let here = at row map j in
-    cond here.reached (cond (here.link == j) (Some (j ∷ [])) (then j (way_within row map n here.link))) None
+    cond here.reached
+    (cond (here.link == j) (Some (j ∷ [])) (then j (way_within row map n here.link)))
+    None

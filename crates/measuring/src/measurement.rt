@@ -4,8 +4,9 @@ ghost use Rattle.board.specs.Sizes.{area};
 
 use board::{Cell, Size};
 
-// A board, by a gauge, from the sources of a group. The map and the queue are no part of it: once a map's reference is in a
-// struct, the proof of `measure_group` does not know any more what the map holds at the end.
+// A board, by a gauge, from the sources of a group. The map and the queue are no part of it: once a
+// map's reference is in a struct, the proof of `measure_group` does not know any more what the map
+// holds at the end.
 #[derive(Drop)]
 pub(crate) struct Measurement<'a, G> {
     pub(crate) gauge: &'a G,

@@ -1,11 +1,10 @@
 // How cells are ranked, one after the other.
-ghost use Rattle.std.specs.Prelude.{◌≡◌, ℕ, ◌+◌, ◌*◌, ◌<◌, ◌≤◌, ◌∷◌, length, MatchOption};
+ghost use Rattle.std.specs.Prelude.{◌≡◌, ℕ, ◌+◌, ◌<◌, ◌≤◌, length, IfSome, MatchOption};
 ghost use Rattle.board.specs.Sizes.{area};
 ghost use Rattle.measuring.specs.Boards.{open_neighbours};
-ghost use Rattle.measuring.specs.Maps.{measured_map, reached_count, step_count};
+ghost use Rattle.measuring.specs.Maps.{entries_needed, measured_map, reached_count, step_count};
 ghost use Rattle.measuring.specs.Measurements.{board_of, meant};
-ghost use Rattle.measuring.specs.Rankings.{Bid, offer as offering};
-ghost use Rattle.measuring.specs.Tracking.{Tracks, Turns, View, placed, raised, updated, waiting};
+ghost use Rattle.measuring.specs.Tracking.{RanksOne, Turns};
 ghost use Rattle.queue.specs.Queues.{queued};
 
 use crate::measurement::Measurement;
@@ -25,12 +24,16 @@ impl<'a, G: Gauge> Measurement<'a, G> {
         map: &mut [MapRecord<RowOf<G>>],
         queue: &mut OfferQueue<'q, G::Length>,
     ) -> usize
-        requires within { (area self.now.size ≤ length map.old) × (offer.cell < area self.now.size) }
+        requires within { area self.now.size ≤ length map.old }
+        requires cell { offer.cell < area self.now.size }
         requires room { queue.old.len + 8 ≤ length queue.old.entries.now }
-        ensures few { (queue.new.len ≤ queue.old.len + 8) × (result ≤ 8) }
+        ensures few { queue.new.len ≤ queue.old.len + 8 }
+        ensures eight { result ≤ 8 }
         ensures room { length queue.new.entries.now ≡ length queue.old.entries.now }
         ensures counts { result ≡ open_neighbours (board_of self.now) offer.cell }
-        ensures tracks { (view : ℕ → View G.Length) (x : Bid G.Length) → view offer.cell ≡ waiting x → G.Length.rows.decode offer.length ≡ x.length → Tracks G.Length.kind G.Length.rows (area self.now.size) view map.old (offer ∷ queued queue.old) → Tracks G.Length.kind G.Length.rows (area self.now.size) (λ j. raised G.Length.kind (updated view offer.cell (placed rank x) j) (offering (meant G.Length.kind G.Gauge.crossing self.now) x j)) map.new (queued queue.new) }
+        ensures tracks { RanksOne
+            (meant G.Length.kind G.crossing self.now) rank offer
+            map.old (queued queue.old) map.new (queued queue.new) }
     {
         let number = offer.cell;
         let mut record = map[number];
@@ -50,8 +53,8 @@ impl<'a, G: Gauge> Measurement<'a, G> {
         self.offer_around(from, map, queue)
     }
 
-    // Takes up an offer that came out of the queue: its cell is ranked with this rank, and the steps that it puts to the
-    // gauge are counted. An offer to a ranked cell is dropped.
+    // Takes up an offer that came out of the queue: its cell is ranked with this rank, and the
+    // steps that it puts to the gauge are counted. An offer to a ranked cell is dropped.
     fn take_up<'q>(
         &self,
         offer: Offer<RowOf<G>>,
@@ -59,11 +62,16 @@ impl<'a, G: Gauge> Measurement<'a, G> {
         map: &mut [MapRecord<RowOf<G>>],
         queue: &mut OfferQueue<'q, G::Length>,
     ) -> Option<usize>
-        requires within { (area self.now.size ≤ length map.old) × (offer.cell < area self.now.size) }
+        requires within { area self.now.size ≤ length map.old }
+        requires cell { offer.cell < area self.now.size }
         requires room { queue.old.len + 8 ≤ length queue.old.entries.now }
-        ensures few { MatchOption result (queue.new.len ≤ queue.old.len) (λ steps. (queue.new.len ≤ queue.old.len + 8) × (steps ≤ 8)) }
+        ensures few { MatchOption result (queue.new.len ≤ queue.old.len)
+            (λ _. queue.new.len ≤ queue.old.len + 8) }
+        ensures eight { IfSome result (λ steps. steps ≤ 8) }
         ensures room { length queue.new.entries.now ≡ length queue.old.entries.now }
-        ensures turns { (steps : ℕ) → Turns G.Length.rows (meant G.Length.kind G.Gauge.crossing self.now) rank steps offer map.old (queued queue.old) result map.new (queued queue.new) }
+        ensures turns { (steps : ℕ) → Turns
+            (meant G.Length.kind G.crossing self.now) rank steps offer result
+            map.old (queued queue.old) map.new (queued queue.new) }
     {
         if map[offer.cell].reached {
             return None;
@@ -71,18 +79,20 @@ impl<'a, G: Gauge> Measurement<'a, G> {
         Some(self.rank_cell(offer, rank, map, queue))
     }
 
-    // Starts the map and ranks cells until all are ranked or no offer is left. An offer to a ranked cell is dropped.
+    // Starts the map and ranks cells until all are ranked or no offer is left. An offer to a ranked
+    // cell is dropped.
     pub(crate) fn rank_all<'q>(
         &self,
         map: &mut [MapRecord<RowOf<G>>],
         queue: &mut OfferQueue<'q, G::Length>,
     ) -> Counts
         requires within { length map.old ≡ area self.now.size }
-        requires room { (queue.old.len ≡ 0) × (9 * area self.now.size ≤ length queue.old.entries.now) }
+        requires empty { queue.old.len ≡ 0 }
+        requires room { entries_needed self.now.size ≤ length queue.old.entries.now }
         ensures bound { result.reached ≤ area self.now.size }
-        ensures map { map.new ≡ measured_map G.Length.rows (meant G.Length.kind G.Gauge.crossing self.now) }
-        ensures reached { result.reached ≡ reached_count (meant G.Length.kind G.Gauge.crossing self.now) }
-        ensures steps { result.steps ≡ step_count (meant G.Length.kind G.Gauge.crossing self.now) }
+        ensures map { map.new ≡ measured_map (meant G.Length.kind G.crossing self.now) }
+        ensures reached { result.reached ≡ reached_count (meant G.Length.kind G.crossing self.now) }
+        ensures steps { result.steps ≡ step_count (meant G.Length.kind G.crossing self.now) }
     {
         self.start(map, queue);
         let area = self.size.area();

@@ -1,8 +1,9 @@
 // How a map starts: each source has the offer zero.
-ghost use Rattle.std.specs.Prelude.{◌≡◌, ℕ, ◌+◌, ◌<◌, ◌≤◌, length};
+ghost use Rattle.std.specs.Prelude.{◌≡◌, ◌+◌, ◌<◌, ◌≤◌, length};
 ghost use Rattle.board.specs.Sizes.{area};
 ghost use Rattle.board.specs.Tables.{source_pad};
-ghost use Rattle.measuring.specs.Tracking.{Tracks, View, begun, starting};
+ghost use Rattle.measuring.specs.Measurements.{meant};
+ghost use Rattle.measuring.specs.Tracking.{Started, StartsOne};
 ghost use Rattle.queue.specs.Queues.{queued};
 
 use crate::RowOf;
@@ -12,18 +13,21 @@ use gauges::Gauge;
 use lengths::Length;
 use queue::{Offer, OfferQueue};
 
-// Starts one record: a source, whose pad is not 0, links to itself and has the offer zero; another cell has no offer.
+// Starts one record: a source, whose pad is not 0, links to itself and has the offer zero; another
+// cell has no offer.
 fn start_cell<'q, K: Length>(
     number: usize,
     pad: u8,
     map: &mut [MapRecord<K::Row>],
     queue: &mut OfferQueue<'q, K>,
 )
-    requires within { (number < length map.old) × (number < 65536) }
+    requires within { number < length map.old }
+    requires number { number < 65536 }
     requires room { queue.old.len < length queue.old.entries.now }
     ensures few { queue.new.len ≤ queue.old.len + 1 }
     ensures room { length queue.new.entries.now ≡ length queue.old.entries.now }
-    ensures tracks { (view : ℕ → View K) → view number ≡ begun K.Length.kind number pad → Tracks K.Length.kind K.Length.rows number view map.old (queued queue.old) → Tracks K.Length.kind K.Length.rows (number + 1) view map.new (queued queue.new) }
+    ensures tracks { StartsOne
+        K.kind number pad map.old (queued queue.old) map.new (queued queue.new) }
 {
     let zero = K::zero().encode();
     if pad == 0 {
@@ -38,8 +42,8 @@ fn start_cell<'q, K: Length>(
 }
 
 impl<'a, G: Gauge> Measurement<'a, G> {
-    // The pad of a source of the group, or 0, the tables' word for no pad, where the cell is none: a source is an open cell
-    // whose pad is in the group.
+    // The pad of a source of the group, or 0, the tables' word for no pad, where the cell is none:
+    // a source is an open cell whose pad is in the group.
     fn source_pad(&self, cell: Cell) -> u8
         ensures { result ≡ source_pad cell self.now.groups.now self.now.group }
     {
@@ -58,10 +62,12 @@ impl<'a, G: Gauge> Measurement<'a, G> {
         queue: &mut OfferQueue<'q, G::Length>,
     )
         requires within { area self.now.size ≤ length map.old }
-        requires room { (queue.old.len ≡ 0) × (area self.now.size ≤ length queue.old.entries.now) }
+        requires empty { queue.old.len ≡ 0 }
+        requires room { area self.now.size ≤ length queue.old.entries.now }
         ensures few { queue.new.len ≤ area self.now.size }
         ensures room { length queue.new.entries.now ≡ length queue.old.entries.now }
-        ensures tracks { Tracks G.Length.kind G.Length.rows (area self.now.size) (starting G.Length.kind self.now.cells.now self.now.groups.now self.now.group) map.new (queued queue.new) }
+        ensures tracks { Started
+            (meant G.Length.kind G.crossing self.now) map.new (queued queue.new) }
     {
         for (number, cell) in self.cells[0..self.size.area()].iter().enumerate() {
             let pad = self.source_pad(*cell);

@@ -1,4 +1,5 @@
--- Two shortest paths to a cell join there, and every path between the groups parts there. Assumes nothing.
+-- Two shortest paths to a cell join there, and every path between the groups parts there. Assumes
+-- nothing.
 use Rattle.geodesics.proofs.Gaps.{gap_is_least}
 use Rattle.geodesics.proofs.gap_is_least.Goals as goal
 

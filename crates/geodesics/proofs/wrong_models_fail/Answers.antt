@@ -1,13 +1,14 @@
 use Rattle.std.proofs.Common.{◌≡◌, ℕ, ◌++◌, true, false, List, [], ◌∷◌, refl, ap, nat_le, arith}
 use Rattle.std.proofs.lemmas.Bool.Decides.{nat_tests}
-use Rattle.std.specs.List.{AllByRecursion}
+use Rattle.std.specs.List.{All}
+use Rattle.std.proofs.lemmas.List.Elements.{All-head}
 use Rattle.measuring.specs.Maps.{measured_map, record_at}
 use Rattle.measuring.specs.Rankings.{Bid, best, first_ranked, is_ranked, next_below}
 use Rattle.geodesics.specs.Least.{LeastLengths}
-use Rattle.geodesics.specs.Needed.{Grows, Ordered, by, disordered, number_rows, shrinking}
+use Rattle.geodesics.specs.Needed.{Grows, Ordered, by, disordered, shrinking}
 use Rattle.geodesics.proofs.wrong_models_fail.Goals as goal
 
-far : LeastLengths number_rows (by disordered) → ⊥
+far : LeastLengths (by disordered) → ⊥
 unfolding measured_map record_at best first_ranked is_ranked next_below
 far least =
     let turning-back : nat_le 10 3 ≡ true = (least 2 (omega arith)).least (1 ∷ 0 ∷ 1 ∷ 0 ∷ []) 3 refl in
@@ -19,7 +20,7 @@ grows s genuine a = grind (arith, nat_tests)
 pub returns-clause-order : goal.returns-clause-order
 returns-clause-order c = (grows, far)
 
-near : LeastLengths number_rows (by shrinking) → ⊥
+near : LeastLengths (by shrinking) → ⊥
 unfolding measured_map record_at best first_ranked is_ranked next_below
 near least =
     let there-and-back : nat_le 1 0 ≡ true = (least 1 (omega arith)).least (2 ∷ 1 ∷ 0 ∷ []) 0 refl in
@@ -39,11 +40,11 @@ head_or d [] = d
 head_or d (x ∷ xs) = x
 
 -- the offer of the cell ranked last is not the first of two that are as short
-not_first : (before behind : List (Bid ℕ)) → (at_zero 1 0 ∷ at_zero 1 2 ∷ []) ≡ before ++ (at_zero 1 2 ∷ behind) → AllByRecursion (λ y. nat_le y.length 0 ≡ false) before → ⊥
+not_first : (before behind : List (Bid ℕ)) → (at_zero 1 0 ∷ at_zero 1 2 ∷ []) ≡ before ++ (at_zero 1 2 ∷ behind) → All (λ y. nat_le y.length 0 ≡ false) before → ⊥
 not_first [] behind is longer = omega (arith, ap (λ xs. (head_or (at_zero 9 9) xs).link) is)
 not_first (y ∷ ys) behind is longer =
     let same : 0 ≡ y.length = ap (λ xs. (head_or (at_zero 9 9) xs).length) is in
-    let above : nat_le y.length 0 ≡ false = longer.0 in
+    let above : nat_le y.length 0 ≡ false = All-head (λ y. nat_le y.length 0 ≡ false) y ys longer in
     grind (arith, nat_tests)
 
 pub returns-clause-first : goal.returns-clause-first

@@ -6,13 +6,13 @@ use Rattle.measuring.proofs.starts.start_cell.Goals as goal
 
 pub returns-then-pad-eq0-clause-tracks : goal.returns-then-pad-eq0-clause-tracks
 returns-then-pad-eq0-clause-tracks g c view is t =
-    let row = c.encode-zero.ensures ∙ ap g.K.Length.rows.encode c.zero.ensures in
+    let row = c.encode-zero.ensures ∙ ap g.K.Length.kind.encode c.zero.ensures in
     rw (c.unreached.ensures ∙ ap unreached_record row)
-    (start_none g.met.K.Length.lawful t c.requires.within.0 (let none = c.if-pad-eq0.true in grind (arith, nat_tests)))
+    (start_none g.met.K.Length.lawful t c.requires.within (let none = c.if-pad-eq0.true in grind (arith, nat_tests)))
 
 pub returns-clause-tracks : goal.returns-clause-tracks
 returns-clause-tracks g c view is t =
-    let row = c.encode-zero.ensures ∙ ap g.K.Length.rows.encode c.zero.ensures in
+    let row = c.encode-zero.ensures ∙ ap g.K.Length.kind.encode c.zero.ensures in
     let shuffled = rw row at (pushed c.push.ensures c.requires.room) in
     rw (c.offered.ensures ∙ ap (λ r. offered_record r c.args.pad c.args.number) row)
-    (start_put g.met.K.Length.lawful _ t c.requires.within.0 (let some = c.if-pad-eq0.false in grind (arith, nat_tests)) refl (omega arith) shuffled)
+    (start_put g.met.K.Length.lawful _ t c.requires.within (let some = c.if-pad-eq0.false in grind (arith, nat_tests)) refl (omega arith) shuffled)

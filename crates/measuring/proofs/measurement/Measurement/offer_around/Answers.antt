@@ -11,7 +11,7 @@ loop-row-init g c = record {
   room = refl;
   few = grind (arith, nat_tests);
   steps = grind (arith, nat_tests);
-  walked = skipped stood (skips_above (board_of c.args.self.now) c.args.from.number c.beside-first.result.0 (c.beside-first.ensures.0 ∙ ap (λ p. p.row - 1) c.requires.placed));
+  walked = skipped stood (skips_above (board_of c.args.self.now) c.args.from.number c.beside-first.result.0 (c.beside-first.ensures.first ∙ ap (λ p. p.row - 1) c.requires.placed));
 }
 
 pub loop-row-preserved : goal.loop-row-preserved
@@ -21,7 +21,7 @@ loop-row-preserved g c =
       room = search rules;
       few = grind (arith, nat_tests);
       steps = grind (arith, nat_tests);
-      walked = walked_on c.loop-row.invariant.walked (record { counts = told.counts; tracks = told.tracks });
+      walked = walked_on c.loop-row.invariant.walked told.walked;
     }
 
 pub returns : goal.returns
@@ -35,6 +35,7 @@ returns g c =
     let walked = skipped c.loop-row.invariant.walked (skips_below b i row (all ∙ ap (λ p. min (p.row + 2) job.size.rows) c.requires.placed)) in
     record {
       few = grind (arith, nat_tests);
+      eight = grind (arith, nat_tests);
       room = search rules;
       counts = omega (arith, walked.counts, counted_none b i, counted_all b i);
       tracks = λ view pad t.

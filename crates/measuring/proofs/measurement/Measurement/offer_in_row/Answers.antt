@@ -9,7 +9,7 @@ loop-column-init g c = record {
   room = refl;
   few = grind (arith, nat_tests);
   steps = grind (arith, nat_tests);
-  walked = skipped stood (skips_left (board_of c.args.self.now) c.args.from.number c.args.row _ (c.beside-first.ensures.0 ∙ ap (λ p. p.column - 1) c.requires.placed));
+  walked = skipped stood (skips_left (board_of c.args.self.now) c.args.from.number c.args.row _ (c.beside-first.ensures.first ∙ ap (λ p. p.column - 1) c.requires.placed));
 }
 
 pub loop-column-preserved : goal.loop-column-preserved
@@ -19,7 +19,7 @@ loop-column-preserved g c =
       room = search rules;
       few = grind (arith, nat_tests);
       steps = grind (arith, nat_tests);
-      walked = walked_on c.loop-column.invariant.walked (record { counts = told.counts; tracks = told.tracks });
+      walked = walked_on c.loop-column.invariant.walked told.walked;
     }
 
 pub returns : goal.returns
@@ -28,4 +28,4 @@ returns g c =
     let column = c.loop-column.column in
     let all : column ≡ min (c.args.from.at.column + 2) job.size.columns = omega arith in
     let walked = skipped c.loop-column.invariant.walked (skips_right (board_of job) c.args.from.number c.args.row column (all ∙ ap (λ p. min (p.column + 2) job.size.columns) c.requires.placed)) in
-    record { few = grind (arith, nat_tests); room = search rules; counts = walked.counts; tracks = walked.tracks }
+    record { few = grind (arith, nat_tests); three = grind (arith, nat_tests); room = search rules; walked = walked }

@@ -10,7 +10,7 @@ invariant-loop-reached g l = record {
   few : l.queue.len ≤ l.area + 8 * l.reached;
   within : l.reached ≤ l.area;
   steps : l.steps ≤ 8 * l.reached;
-  ranks : Ranks g.G.Length.Length.rows (meant g.G.Length.Length.kind g.G.Gauge.crossing l.self) l.reached l.steps l.map (queued l.queue);
+  ranks : Ranks (meant g.G.Length.Length.kind g.G.Gauge.crossing l.self) l.reached l.steps l.map (queued l.queue);
 }
 
 abbrev pub decreases-loop-reached : goal.decreases-loop-reached
