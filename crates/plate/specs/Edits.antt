@@ -1,67 +1,69 @@
 -- What opening a plate and each edit answer, and what they write. Assumes nothing.
-use Rattle.std.specs.Prelude.{◌≡◌, ℕ, ◌-◌, ◌*◌, true, false, ◌||◌, List, ◌++◌, length, drop, replicate, Some, None, Option, Result, MatchResult, ◌==◌, nat_lt, slice_set}
-use Rattle.board.specs.Refusals.{refuse, answered, after}
-use Rattle.board.specs.Sizes.{Sized, area, off, bad_size, cell_at}
+use Rattle.std.specs.Prelude.{◌≡◌, ℕ, ◌-◌, false, List, ◌++◌, length, drop, replicate, Some, None, Option, Result, MatchResult, slice_set}
+use Rattle.board.specs.Outcomes.{after, answering}
+use Rattle.board.specs.Sizes.{Sized, area_asked, cell_at}
+use Rattle.board.specs.Tables.{bare_cell, barred_cell, pads}
 use Rattle.board.specs.declared.cell.Cell.{Cell}
-use Rattle.board.specs.declared.refusal.Refusal.{Refusal}
-use Rattle.board.specs.declared.refusal.Refusal.TheVariants as refusal
+use Rattle.board.specs.declared.size.Dimensions.{Dimensions}
+use Rattle.board.specs.declared.size.Size.{Size}
+use Rattle.plate.specs.Headers.{outdated, standing}
+use Rattle.plate.specs.Refusals.{open_refusal}
+use Rattle.plate.specs.declared.edit.Edit.{Edit}
+use Rattle.plate.specs.declared.edit.Edit.TheVariants.{Set, Bar, Enrol}
 use Rattle.plate.specs.declared.header.Draft.{Draft}
+use Rattle.plate.specs.declared.header.Header.{Header}
+use Rattle.plate.specs.declared.refusal.Refusal.{Refusal}
 
--- an open cell of height 0 with no pad
-abbrev pub bare_cell : Cell
-bare_cell = record { height = 0; pad = 0; barred = false }
-
-abbrev pub barred_cell : Cell
-barred_cell = record { height = 0; pad = 0; barred = true }
-
-abbrev pub open_refusal : ℕ → ℕ → List Cell → List ℕ → Option Refusal
-open_refusal rows columns cells groups =
-    refuse (bad_size rows columns) refusal.Size
-    (refuse (nat_lt (length cells) (rows * columns) || nat_lt (length groups) 64) refusal.Tables None)
-
--- a draft of this size with no map measured
-pub record Fresh (rows columns : ℕ) (d : Draft) : Type 0 where
-  pub size : Sized d.header.size rows columns
+-- a draft of these dimensions with no map measured
+pub record Fresh (asked : Dimensions) (d : Draft) : Type 0 where
+  pub size : Sized d.header.size asked
   pub first : d.header.first ≡ false
   pub second : d.header.second ≡ false
 
--- what opening does: its answer, and the cells and the groups afterwards
-pub record Opens (rows columns : ℕ) (cells cells' : List Cell) (groups groups' : List ℕ) (r : Result Draft Refusal) : Type 0 where
-  pub answer : MatchResult r (λ d. (open_refusal rows columns cells groups ≡ None) × Fresh rows columns d) (λ e. open_refusal rows columns cells groups ≡ Some e)
-  pub all_bare : cells' ≡ after (open_refusal rows columns cells groups) cells (replicate (rows * columns) bare_cell ++ drop (rows * columns) cells)
-  pub no_groups : groups' ≡ after (open_refusal rows columns cells groups) groups (replicate 64 0 ++ drop 64 groups)
+-- the cells and the groups of a plate just opened
+abbrev pub opened_cells : Dimensions → List Cell → List Cell
+opened_cells asked cells = replicate (area_asked asked) bare_cell ++ drop (area_asked asked) cells
 
--- both maps are outdated
-abbrev pub outdated : Draft → Draft
-outdated d = record { header = record { size = d.header.size; first = false; second = false } }
+abbrev pub opened_groups : List ℕ → List ℕ
+opened_groups groups = replicate pads 0 ++ drop pads groups
+
+-- what opening does: its answer, and the cells and the groups afterwards
+pub record Opens (refused : Option Refusal) (asked : Dimensions) (cells cells' : List Cell)
+    (groups groups' : List ℕ) (r : Result Draft Refusal) : Type 0 where
+  pub answer : MatchResult r (λ d. (refused ≡ None) × Fresh asked d) (λ e. refused ≡ Some e)
+  pub all_bare : cells' ≡ after refused cells (opened_cells asked cells)
+  pub no_groups : groups' ≡ after refused groups (opened_groups groups)
+
+-- what opening over these tables does
+abbrev pub OpensOver : Dimensions → (cells cells' : List Cell) (groups groups' : List ℕ) →
+    Result Draft Refusal → Type 0
+OpensOver asked cells cells' groups groups' r =
+    Opens (open_refusal asked (length cells) (length groups)) asked cells cells' groups groups' r
+
+-- what an edit makes of the cells of a plate of this size
+abbrev pub cells_edited : Size → Edit → List Cell → List Cell
+cells_edited size (Set row column height pad) cells =
+    slice_set cells (cell_at size row column) (record { height = height; pad = pad; barred = false })
+cells_edited size (Bar row column) cells = slice_set cells (cell_at size row column) barred_cell
+cells_edited size (Enrol pad group) cells = cells
+
+-- and of the groups, where pad 1 has the first byte
+abbrev pub groups_edited : Edit → List ℕ → List ℕ
+groups_edited (Set row column height pad) groups = groups
+groups_edited (Bar row column) groups = groups
+groups_edited (Enrol pad group) groups = slice_set groups (pad - 1) group
 
 -- what an edit does that is sent back by `refused` or else turns its table into `written`
-pub record Edits {X : Type 0} (refused : Option Refusal) (d d' : Draft) (old written new : List X) (r : Result Unit Refusal) : Type 0 where
-  pub answer : r ≡ answered refused
+pub record Edits {X : Type 0} (refused : Option Refusal) (h h' : Header) (old written new : List X)
+    (r : Result Unit Refusal) : Type 0 where
+  pub answer : r ≡ answering refused tt
   pub table : new ≡ after refused old written
-  pub header : d' ≡ after refused d (outdated d)
+  pub header : standing h' ≡ after refused (standing h) (outdated (standing h))
 
-abbrev pub set_refusal : Draft → List Cell → ℕ → ℕ → ℕ → Option Refusal
-set_refusal d cells row column pad =
-    refuse (nat_lt (length cells) (area d.header.size)) refusal.Tables
-    (refuse (off d.header.size row column) refusal.Off
-    (refuse (nat_lt 64 pad) refusal.Pad None))
-
-abbrev pub bar_refusal : Draft → List Cell → ℕ → ℕ → Option Refusal
-bar_refusal d cells row column =
-    refuse (nat_lt (length cells) (area d.header.size)) refusal.Tables
-    (refuse (off d.header.size row column) refusal.Off None)
-
-abbrev pub enrol_refusal : List ℕ → ℕ → ℕ → Option Refusal
-enrol_refusal groups pad group =
-    refuse (nat_lt (length groups) 64) refusal.Tables
-    (refuse (pad == 0 || nat_lt 64 pad) refusal.Pad
-    (refuse (nat_lt 2 group) refusal.Group None))
-
--- the cells with one of them set
-abbrev pub cell_put : Draft → List Cell → ℕ → ℕ → Cell → List Cell
-cell_put d cells row column cell = slice_set cells (cell_at d.header.size row column) cell
-
--- the groups with one pad enrolled; pad 1 has the first byte
-abbrev pub group_put : List ℕ → ℕ → ℕ → List ℕ
-group_put groups pad group = slice_set groups (pad - 1) group
+-- likewise over both tables
+pub record EditsBoth (refused : Option Refusal) (e : Edit) (h h' : Header)
+    (cells cells' : List Cell) (groups groups' : List ℕ) (r : Result Unit Refusal) : Type 0 where
+  pub answer : r ≡ answering refused tt
+  pub on_cells : cells' ≡ after refused cells (cells_edited h.size e cells)
+  pub on_groups : groups' ≡ after refused groups (groups_edited e groups)
+  pub header : standing h' ≡ after refused (standing h) (outdated (standing h))

@@ -1,5 +1,6 @@
+pub mod Refusals
+pub mod Headers
 pub mod Edits
 pub mod Maps
 pub mod Readings
 pub mod Walks
-pub mod Seals

@@ -1,27 +1,29 @@
 // Opening a plate, and the edits.
 ghost use Rattle.std.specs.Prelude.{◌≡◌, ◌<◌, false, length, Some, None, MatchResult};
 ghost use Rattle.board.specs.Sizes.{cell_at};
-ghost use Rattle.plate.specs.Edits.{Edits, Opens, bar_refusal, barred_cell, cell_put, enrol_refusal, group_put, outdated, set_refusal};
+ghost use Rattle.plate.specs.Edits.{Edits, EditsBoth, OpensOver, cells_edited, groups_edited};
+ghost use Rattle.plate.specs.Headers.{outdated, standing};
+ghost use Rattle.plate.specs.Refusals.{bar_refusal, edit_refusal, enrol_refusal, set_refusal};
+ghost use Rattle.plate.specs.declared.edit.Edit.TheVariants as edit;
 
-use crate::{Draft, Header};
-use board::{Cell, Refusal, Size, fill_front};
+use crate::{Draft, Edit, Header, Refusal};
+use board::{Cell, Dimensions, PADS, Size, fill_front};
 
 impl Draft {
-    // A new plate: heights 0, all cells open and bare, all pads in group 0, no map measured.
+    /// A new plate: heights 0, all cells open and bare, all pads in group 0, no map measured. Sent back: 1 and 2.
     pub fn open(
-        rows: u16,
-        columns: u16,
+        dimensions: Dimensions,
         cells: &mut [Cell],
         groups: &mut [u8],
     ) -> Result<Draft, Refusal>
-        ensures { Opens rows columns cells.old cells.new groups.old groups.new result }
+        ensures { OpensOver dimensions cells.old cells.new groups.old groups.new result }
     {
-        let size = Size::new(rows, columns)?;
-        if cells.len() < size.area() || groups.len() < 64 {
+        let size = Size::new(dimensions).ok_or(Refusal::Size)?;
+        if cells.len() < size.area() || groups.len() < PADS {
             return Err(Refusal::Tables);
         }
         fill_front(cells, size.area(), Cell::BARE);
-        fill_front(groups, 64, 0);
+        fill_front(groups, PADS, 0);
         Ok(Draft {
             header: Header {
                 size,
@@ -33,7 +35,13 @@ impl Draft {
 
     // Where a cell stands in the table.
     fn cell_index(&self, cells: &[Cell], row: u16, column: u16) -> Result<usize, Refusal>
-        ensures { MatchResult result (λ at. (bar_refusal self.now cells.now row column ≡ None) × (at ≡ cell_at self.now.header.size row column) × (at < length cells.now)) (λ e. bar_refusal self.now cells.now row column ≡ Some e) }
+        ensures { let refused = bar_refusal self.now.header.size (length cells.now) row column in
+            MatchResult result
+            (λ at.
+            (refused ≡ None) ×
+            (at ≡ cell_at self.now.header.size row column) ×
+            (at < length cells.now))
+            (λ e. refused ≡ Some e) }
     {
         let size = self.header.size;
         if cells.len() < size.area() {
@@ -43,13 +51,13 @@ impl Draft {
     }
 
     fn outdate(&mut self)
-        ensures { self.new ≡ outdated self.old }
+        ensures { standing self.new.header ≡ outdated (standing self.old.header) }
     {
         self.header.first = false;
         self.header.second = false;
     }
 
-    // Gives a cell its height and pad, and opens it.
+    /// Gives a cell its height, from 0 to 65,535, and its pad, from 0 to 64, and opens it. Sent back: 2, 3 and 4.
     pub fn set(
         &mut self,
         cells: &mut [Cell],
@@ -58,10 +66,12 @@ impl Draft {
         height: u16,
         pad: u16,
     ) -> Result<(), Refusal>
-        ensures { Edits (set_refusal self.old cells.old row column pad) self.old self.new cells.old (cell_put self.old cells.old row column (record { height = height; pad = pad; barred = false })) cells.new result }
+        ensures { let size = self.old.header.size in
+            Edits (set_refusal size (length cells.old) row column pad) self.old.header self.new.header
+            cells.old (cells_edited size (edit.Set row column height pad) cells.old) cells.new result }
     {
         let at = self.cell_index(cells, row, column)?;
-        if pad > 64 {
+        if usize::from(pad) > PADS {
             return Err(Refusal::Pad);
         }
         cells[at] = Cell {
@@ -73,9 +83,11 @@ impl Draft {
         Ok(())
     }
 
-    // Bars a cell, with height and pad 0.
+    /// Bars a cell, with height and pad 0. Sent back: 2 and 3.
     pub fn bar(&mut self, cells: &mut [Cell], row: u16, column: u16) -> Result<(), Refusal>
-        ensures { Edits (bar_refusal self.old cells.old row column) self.old self.new cells.old (cell_put self.old cells.old row column barred_cell) cells.new result }
+        ensures { let size = self.old.header.size in
+            Edits (bar_refusal size (length cells.old) row column) self.old.header self.new.header
+            cells.old (cells_edited size (edit.Bar row column) cells.old) cells.new result }
     {
         let at = self.cell_index(cells, row, column)?;
         cells[at] = Cell::BARRED;
@@ -83,14 +95,15 @@ impl Draft {
         Ok(())
     }
 
-    // Puts a pad into a group.
+    /// Puts a pad, from 1 to 64, into a group, from 0 to 2. Sent back: 2, 4 and 5.
     pub fn enrol(&mut self, groups: &mut [u8], pad: u16, group: u16) -> Result<(), Refusal>
-        ensures { Edits (enrol_refusal groups.old pad group) self.old self.new groups.old (group_put groups.old pad group) groups.new result }
+        ensures { Edits (enrol_refusal (length groups.old) pad group) self.old.header self.new.header
+            groups.old (groups_edited (edit.Enrol pad group) groups.old) groups.new result }
     {
-        if groups.len() < 64 {
+        if groups.len() < PADS {
             return Err(Refusal::Tables);
         }
-        if pad == 0 || pad > 64 {
+        if pad == 0 || usize::from(pad) > PADS {
             return Err(Refusal::Pad);
         }
         // 0 is allowed here, so this is no `Group`.
@@ -100,5 +113,23 @@ impl Draft {
         groups[pad as usize - 1] = group as u8;
         self.outdate();
         Ok(())
+    }
+
+    /// Makes an edit, as the call of its name does.
+    pub fn edit(&mut self, cells: &mut [Cell], groups: &mut [u8], edit: Edit) -> Result<(), Refusal>
+        ensures { EditsBoth
+            (edit_refusal self.old.header.size (length cells.old) (length groups.old) edit)
+            edit self.old.header self.new.header cells.old cells.new groups.old groups.new result }
+    {
+        match edit {
+            Edit::Set {
+                row,
+                column,
+                height,
+                pad,
+            } => self.set(cells, row, column, height, pad),
+            Edit::Bar { row, column } => self.bar(cells, row, column),
+            Edit::Enrol { pad, group } => self.enrol(groups, pad, group),
+        }
     }
 }

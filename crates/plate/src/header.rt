@@ -3,8 +3,8 @@ ghost use Rattle.std.specs.Prelude.{◌≡◌};
 
 use board::Size;
 
-// The plate's size, and for each group whether its map was measured after the last accepted edit: two flags with names, as plain as an
-// enum of four states. It is never copied, so that no second header can call an old map current.
+/// The plate's size, and for each group whether its map was measured after the last accepted edit: two flags with names, as plain as an
+/// enum of four states. It is never copied, so that no second header can call an old map current.
 #[derive(Drop)]
 pub struct Header {
     pub(crate) size: Size,
@@ -12,19 +12,20 @@ pub struct Header {
     pub(crate) second: bool,
 }
 
-// A plate that can be edited. It moves and is never copied.
+/// A plate that can be edited. It moves and is never copied.
 #[derive(Drop)]
 pub struct Draft {
     pub(crate) header: Header,
 }
 
-// A plate that can be read only. It moves and is never copied, and no edit and no measuring takes it.
+/// A plate that can be read only. It moves and is never copied, and no edit and no measuring takes it.
 #[derive(Drop)]
 pub struct Sealed {
     pub(crate) header: Header,
 }
 
 impl Draft {
+    /// The size that it was opened with.
     pub fn size(&self) -> Size
         ensures { result ≡ self.now.header.size }
     {
@@ -33,6 +34,7 @@ impl Draft {
 }
 
 impl Sealed {
+    /// The size that it was opened with.
     pub fn size(&self) -> Size
         ensures { result ≡ self.now.header.size }
     {

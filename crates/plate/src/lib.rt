@@ -2,14 +2,18 @@
 // numbers, since any may come and a wrong one is sent back with its refusal.
 #![tactic(auto)]
 
+pub mod edit;
 pub mod edits;
 pub mod header;
 pub mod maps;
 mod readings;
+pub mod refusal;
 mod routes;
 pub mod seals;
 mod ways;
 
+pub use edit::Edit;
 pub use header::{Draft, Header, Sealed};
 pub use readings::Readings;
+pub use refusal::Refusal;
 pub use seals::NotSealed;

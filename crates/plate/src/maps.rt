@@ -1,15 +1,14 @@
 // Measuring a group's map.
 ghost use Rattle.std.specs.Prelude.{◌≡◌, length, Some, None, MatchResult};
 ghost use Rattle.board.specs.Groups.{group_number};
-ghost use Rattle.board.specs.Sizes.{area};
-ghost use Rattle.measuring.specs.Boards.{on};
-ghost use Rattle.measuring.specs.Paths.{measuring as measured_by};
-ghost use Rattle.plate.specs.Maps.{Measures, MeasuresMap, measure_refusal, measured};
+ghost use Rattle.plate.specs.Headers.{renewed, standing};
+ghost use Rattle.plate.specs.Maps.{MeasuresOver};
+ghost use Rattle.plate.specs.Refusals.{measure_refusal};
 
-use crate::Draft;
-use board::{Cell, Group, MapRecord, Refusal};
+use crate::{Draft, Refusal};
+use board::{Cell, Group, MapRecord, PADS};
 use gauges::Gauge;
-use measuring::{Counts, RowOf, measure_group};
+use measuring::{Counts, ENTRIES_PER_CELL, RowOf, measure_group};
 use queue::Offer;
 
 impl Draft {
@@ -21,17 +20,25 @@ impl Draft {
         map: usize,
         entries: usize,
     ) -> Result<Group, Refusal>
-        ensures { MatchResult result (λ chosen. (measure_refusal self.now cells.now groups.now group map entries ≡ None) × (group_number chosen ≡ group)) (λ e. measure_refusal self.now cells.now groups.now group map entries ≡ Some e) }
+        ensures { let refused = measure_refusal self.now.header.size (length cells.now)
+            (length groups.now) map entries group in
+            MatchResult result
+            (λ chosen. (refused ≡ None) × (group_number chosen ≡ group))
+            (λ e. refused ≡ Some e) }
     {
         let area = self.header.size.area();
-        if cells.len() < area || groups.len() < 64 || map < area || entries < 9 * area {
+        if cells.len() < area
+            || groups.len() < PADS
+            || map < area
+            || entries < ENTRIES_PER_CELL * area
+        {
             return Err(Refusal::Tables);
         }
-        Group::try_from(group)
+        Group::new(group).ok_or(Refusal::Group)
     }
 
     fn mark_current(&mut self, group: Group)
-        ensures { self.new ≡ measured (group_number group) self.old }
+        ensures { standing self.new.header ≡ renewed (group_number group) (standing self.old.header) }
     {
         match group {
             Group::First => self.header.first = true,
@@ -39,7 +46,7 @@ impl Draft {
         }
     }
 
-    // Fills the map of group 1 or 2, and answers how many cells were reached and how many steps were put to the gauge.
+    /// Fills the map of group 1 or 2, and answers how many cells were reached and how many steps were put to the gauge. Sent back: 2 and 5.
     pub fn measure<G: Gauge>(
         &mut self,
         gauge: &G,
@@ -49,8 +56,8 @@ impl Draft {
         map: &mut [MapRecord<RowOf<G>>],
         entries: &mut [Offer<RowOf<G>>],
     ) -> Result<Counts, Refusal>
-        ensures measures { let refused = measure_refusal self.old cells.now groups.now group (length map.old) (length entries.old) in Measures refused group (area self.old.header.size) self.old self.new map.old map.new entries.old entries.new result }
-        ensures exact { let refused = measure_refusal self.old cells.now groups.now group (length map.old) (length entries.old) in MeasuresMap refused G.Length.rows (measured_by G.Length.kind (G.Gauge.crossing gauge.now) (on self.old.header.size cells.now groups.now) group) map.old map.new result }
+        ensures { MeasuresOver G.Length.kind (G.crossing gauge.now) group self.old.header
+            self.new.header cells.now groups.now map.old map.new entries.old entries.new result }
     {
         let group = self.may_measure(cells, groups, group, map.len(), entries.len())?;
         let counts = measure_group(

@@ -1,6 +1,6 @@
 // Both maps of a plate together: the gap and the route.
 ghost use Rattle.std.specs.Prelude.{◌≡◌, ◌<◌, ◌≤◌, length};
-ghost use Rattle.measuring.specs.Readings.{least, least_sum, marked, route_marks, same_length, sum_at};
+ghost use Rattle.measuring.specs.MapReadings.{least, least_sum, marked, route_marks, same_length, sum_at};
 
 use crate::readings::distance_at;
 use board::MapRecord;
@@ -21,7 +21,7 @@ pub(crate) struct Maps<'a, R: Ruler> {
 
 // The shorter of two lengths, where there are any.
 fn shorter<K: Length>(best: Option<K>, more: Option<K>) -> Option<K>
-    ensures { result ≡ least K.Length.kind best more }
+    ensures { result ≡ least K.kind best more }
 {
     match (best, more) {
         (Some(a), Some(b)) => Some(if a.at_most(b) { a } else { b }),
@@ -32,7 +32,7 @@ fn shorter<K: Length>(best: Option<K>, more: Option<K>) -> Option<K>
 
 // Whether there are two lengths, and they are the same.
 fn is_same<K: Length>(a: Option<K>, b: Option<K>) -> bool
-    ensures { result ≡ same_length K.Length.kind a b }
+    ensures { result ≡ same_length K.kind a b }
 {
     match (a, b) {
         (Some(a), Some(b)) => a.at_most(b) && b.at_most(a),
@@ -44,7 +44,8 @@ impl<R: Ruler> Maps<'_, R> {
     // The sum of a cell's two distances, or none where it has not both.
     fn sum_at(&self, number: usize) -> Option<R::Length>
         requires { number < self.now.area }
-        ensures { result ≡ sum_at R.Length.kind R.Length.rows (R.Ruler.ruling self.now.ruler.now).sum self.now.first.now self.now.second.now number }
+        ensures { result ≡ sum_at R.Length.kind (R.ruling self.now.ruler.now).sum
+            self.now.first.now self.now.second.now number }
     {
         let a = distance_at::<R::Length>(self.first, number)?;
         let b = distance_at::<R::Length>(self.second, number)?;
@@ -53,7 +54,8 @@ impl<R: Ruler> Maps<'_, R> {
 
     // The least sum of a cell's two distances, or none where no cell has both.
     pub(crate) fn least_sum(&self) -> Option<R::Length>
-        ensures { result ≡ least_sum R.Length.kind R.Length.rows (R.Ruler.ruling self.now.ruler.now).sum self.now.first.now self.now.second.now self.now.area }
+        ensures { result ≡ least_sum R.Length.kind (R.ruling self.now.ruler.now).sum
+            self.now.first.now self.now.second.now self.now.area }
     {
         // As a fold it takes half as long again: 169 in place of 108 microseconds on 256 × 256 cells.
         let mut best = None;
@@ -66,8 +68,10 @@ impl<R: Ruler> Maps<'_, R> {
     // Marks each cell whose two distances sum to the gap with 1 and the others with 0, and counts the first.
     pub(crate) fn mark_route(&self, marks: &mut [u8]) -> usize
         requires { length marks.old ≡ self.now.area }
-        ensures marks { marks.new ≡ route_marks R.Length.kind R.Length.rows (R.Ruler.ruling self.now.ruler.now).sum self.now.first.now self.now.second.now self.now.area }
-        ensures count { result ≡ marked R.Length.kind R.Length.rows (R.Ruler.ruling self.now.ruler.now).sum self.now.first.now self.now.second.now self.now.area }
+        ensures marks { marks.new ≡ route_marks R.Length.kind (R.ruling self.now.ruler.now).sum
+            self.now.first.now self.now.second.now self.now.area }
+        ensures count { result ≡ marked R.Length.kind (R.ruling self.now.ruler.now).sum
+            self.now.first.now self.now.second.now self.now.area }
     {
         let gap = self.least_sum();
         let mut count = 0;

@@ -6,14 +6,14 @@ use Rattle.plate.proofs.ways.way_length.Goals as goal
 
 pub loop-passed-init : goal.loop-passed-init
 loop-passed-init g c =
-    let row = g.K.Length.rows.encode g.K.Length.kind.zero in
+    let row = g.K.Length.kind.encode g.K.Length.kind.zero in
     let map = c.args.map.now in
     let all : length map ≡ length map - 0 = omega arith in
     ([], refl, following_none _ ∙ ap (λ n. following [] (way_within row map n c.args.start)) all)
 
 pub loop-passed-preserved : goal.loop-passed-preserved
 loop-passed-preserved g c =
-    let row = g.K.Length.rows.encode g.K.Length.kind.zero in
+    let row = g.K.Length.kind.encode g.K.Length.kind.zero in
     let map = c.args.map.now in
     let cell = c.loop-passed.cell in
     let inv = c.loop-passed.invariant in
@@ -31,7 +31,7 @@ loop-passed-preserved g c =
 -- an unreached cell has no way
 pub returns-in_err-link : goal.returns-in_err-link
 returns-in_err-link g c =
-    let row = g.K.Length.rows.encode g.K.Length.kind.zero in
+    let row = g.K.Length.kind.encode g.K.Length.kind.zero in
     let inv = c.loop-passed.invariant in
     rw c.from_residual.ensures
     (inv.2 ∙ ap (following inv.0) (way_unreached row c.args.map.now _ c.loop-passed.cell c.in_err-link.ensures))
@@ -39,7 +39,7 @@ returns-in_err-link g c =
 -- at a cell that is linked to itself the way ends
 pub returns-then-link-cell : goal.returns-then-link-cell
 returns-then-link-cell g c =
-    let row = g.K.Length.rows.encode g.K.Length.kind.zero in
+    let row = g.K.Length.kind.encode g.K.Length.kind.zero in
     let map = c.args.map.now in
     let cell = c.loop-passed.cell in
     let inv = c.loop-passed.invariant in
@@ -56,7 +56,7 @@ returns-then-link-cell g c =
 pub returns : goal.returns
 unfolding way_within
 returns g c =
-    let row = g.K.Length.rows.encode g.K.Length.kind.zero in
+    let row = g.K.Length.kind.encode g.K.Length.kind.zero in
     let map = c.args.map.now in
     let inv = c.loop-passed.invariant in
     let none : length map - c.loop-passed.passed ≡ 0 = omega arith in

@@ -9,4 +9,4 @@ abbrev pub invariant-loop-passed : goal.invariant-loop-passed
 invariant-loop-passed g l =
     (front : List ℕ) ×
     (length front ≡ l.passed) ×
-    (way_on g.K.Length.kind g.K.Length.rows l.map l.start ≡ following front (way_within (g.K.Length.rows.encode g.K.Length.kind.zero) l.map (length l.map - l.passed) l.cell))
+    (way_on g.K.Length.kind l.map l.start ≡ following front (way_within (g.K.Length.kind.encode g.K.Length.kind.zero) l.map (length l.map - l.passed) l.cell))

@@ -10,26 +10,26 @@ loop-place-init g c = (c.requires.0, c.requires.1, omega (arith, c.requires.2), 
 pub overflow_cast-cell : goal.overflow_cast-cell
 overflow_cast-cell g c =
     let inv = c.loop-place.invariant in
-    omega (arith, goes_within (g.K.Length.rows.encode g.K.Length.kind.zero) c.args.map.now c.loop-place.cell inv.0 inv.3 (omega (arith, inv.2)))
+    omega (arith, goes_within (g.K.Length.kind.encode g.K.Length.kind.zero) c.args.map.now c.loop-place.cell inv.0 inv.3 (omega (arith, inv.2)))
 
 pub offset_bounds-map-cell : goal.offset_bounds-map-cell
 offset_bounds-map-cell g c =
     let inv = c.loop-place.invariant in
-    omega (arith, goes_within (g.K.Length.rows.encode g.K.Length.kind.zero) c.args.map.now c.loop-place.cell inv.0 inv.3 (omega (arith, inv.2)))
+    omega (arith, goes_within (g.K.Length.kind.encode g.K.Length.kind.zero) c.args.map.now c.loop-place.cell inv.0 inv.3 (omega (arith, inv.2)))
 
 pub bounds-map-cell : goal.bounds-map-cell
 bounds-map-cell g c =
     let inv = c.loop-place.invariant in
-    goes_within (g.K.Length.rows.encode g.K.Length.kind.zero) c.args.map.now c.loop-place.cell inv.0 inv.3 (omega (arith, inv.2))
+    goes_within (g.K.Length.kind.encode g.K.Length.kind.zero) c.args.map.now c.loop-place.cell inv.0 inv.3 (omega (arith, inv.2))
 
 pub bounds-map-cell-in-loop-place : goal.bounds-map-cell-in-loop-place
 bounds-map-cell-in-loop-place g c =
     let inv = c.loop-place.invariant in
-    goes_within (g.K.Length.rows.encode g.K.Length.kind.zero) c.args.map.now c.loop-place.cell inv.0 inv.3 (omega (arith, inv.2))
+    goes_within (g.K.Length.kind.encode g.K.Length.kind.zero) c.args.map.now c.loop-place.cell inv.0 inv.3 (omega (arith, inv.2))
 
 pub loop-place-preserved : goal.loop-place-preserved
 loop-place-preserved g c =
-    let row = g.K.Length.rows.encode g.K.Length.kind.zero in
+    let row = g.K.Length.kind.encode g.K.Length.kind.zero in
     let map = c.args.map.now in
     let list = c.loop-place.list in
     let cell = c.loop-place.cell in

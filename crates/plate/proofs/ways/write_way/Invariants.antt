@@ -7,6 +7,6 @@ use Rattle.plate.proofs.ways.write_way.Given as goal
 abbrev pub invariant-loop-place : goal.invariant-loop-place
 invariant-loop-place g l =
     (rest : List ℕ) ×
-    (way_on g.K.Length.kind g.K.Length.rows l.map l.start ≡ Some (take l.place-index l.list ++ rest)) ×
+    (way_on g.K.Length.kind l.map l.start ≡ Some (take l.place-index l.list ++ rest)) ×
     (length rest + l.place-index ≡ length l.list) ×
-    Goes (g.K.Length.rows.encode g.K.Length.kind.zero) l.map l.cell rest
+    Goes (g.K.Length.kind.encode g.K.Length.kind.zero) l.map l.cell rest

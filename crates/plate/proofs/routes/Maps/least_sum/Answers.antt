@@ -1,5 +1,5 @@
 use Rattle.std.proofs.Common.{refl, ◌∙◌, add-one}
-use Rattle.measuring.specs.Readings.{least, least_sum}
+use Rattle.measuring.specs.MapReadings.{least, least_sum}
 use Rattle.plate.proofs.routes.Maps.least_sum.Goals as goal
 
 pub loop-number-init : goal.loop-number-init
