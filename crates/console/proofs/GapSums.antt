@@ -6,8 +6,9 @@ use Rattle.std.proofs.lemmas.Str.Parse.{digit_at, numerals_by_value, tells_digit
 use Rattle.std.specs.Fmt.{decimal}
 use Rattle.std.specs.List.{All}
 use Rattle.std.specs.Str.Parse.{AllDigits}
-use Rattle.console.specs.GapSums.{GivesLeastGap, IsLeastGap, PrintsLeastGap, TellsLeastGap, sheet_read}
-use Rattle.console.specs.Gaps.{board_gap, gap_or_fault, gap_text, sheet_gap}
+use Rattle.board.specs.declared.size.Size.{Size}
+use Rattle.console.specs.GapSums.{GivesLeastGap, IsLeastGap, PrintsLeastGap, TellsLeastGap}
+use Rattle.console.specs.Gaps.{board_gap, gap_or_fault, gap_text, sheet_gap, sheet_read}
 use Rattle.console.proofs.Heights.{Low, fitting_low, sheet_low}
 use Rattle.gauges.specs.Rulers.{chessboard_units}
 use Rattle.geodesics.specs.GapSums.{LeastSumBetween}
@@ -15,7 +16,6 @@ use Rattle.geodesics.proofs.GapSums.{published_gap}
 use Rattle.lengths.specs.Wholes.{whole}
 use Rattle.lengths.specs.declared.whole.Whole.{Whole}
 use Rattle.measuring.specs.Boards.{Board, on}
-use Rattle.plate.specs.declared.header.Draft.{Draft}
 use Rattle.sheets.specs.declared.fault.Fault.{Fault}
 
 -- a number's digits are not the word `none`: the first byte is a digit
@@ -54,16 +54,16 @@ prints b (Some gap) least =
       none = (λ e. absurd (number_not_none gap small e), λ none. absurd (none least.end least.cells gap.units least.sum));
     }
 
-least_gap : (b : Board) → All Low b.cells → IsLeastGap b (board_gap b.size b.cells b.groups)
+least_gap : (b : Board) → All Low b.cells → IsLeastGap b (board_gap b)
 least_gap b low = published_gap.chessboard b (fitting_low b low)
 
 -- whatever is the gap of a sheet is least, and whatever is its line says so
 pub gap_given : (sheet : List ℕ) (given : Result (Option Whole) Fault) → given ≡ sheet_gap sheet → GivesLeastGap sheet given
 gap_given sheet given is =
     let r = sheet_read sheet in
-    let told = λ (answer : Result Draft Fault). gap_or_fault answer r.cells r.groups in record {
-      plate = λ draft e.
-          let b = on draft.header.size r.cells r.groups in
+    let told = λ (answer : Result Size Fault). gap_or_fault answer r.cells r.groups in record {
+      plate = λ size e.
+          let b = on size r.cells r.groups in
           subst (λ given. IsOkAnd given (IsLeastGap b)) (sym (is ∙ ap told e)) (least_gap b (sheet_low sheet));
       at_fault = λ fault e. is ∙ ap told e;
     }
@@ -71,9 +71,9 @@ gap_given sheet given is =
 pub gap_told : (sheet line : List ℕ) → line ≡ gap_text (sheet_gap sheet) → TellsLeastGap sheet line
 gap_told sheet line is =
     let r = sheet_read sheet in
-    let told = λ (answer : Result Draft Fault). gap_text (gap_or_fault answer r.cells r.groups) in record {
-      plate = λ draft e.
-          let b = on draft.header.size r.cells r.groups in
+    let told = λ (answer : Result Size Fault). gap_text (gap_or_fault answer r.cells r.groups) in record {
+      plate = λ size e.
+          let b = on size r.cells r.groups in
           subst (PrintsLeastGap b) (sym (is ∙ ap told e)) (prints b _ (least_gap b (sheet_low sheet)));
       at_fault = λ fault e. is ∙ ap told e;
     }

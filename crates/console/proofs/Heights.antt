@@ -1,22 +1,23 @@
 -- A figure is at most 65,535, so every height that a sheet gives is of 16 bits.
-use Rattle.std.proofs.Common.{◌≡◌, ℕ, ◌+◌, ◌*◌, ◌<◌, ◌&&◌, Bool, true, false, cond, List, [], ◌∷◌, drop, length, nat_le, replicate, slice_index_or, Some, None, Option, Ok, Err, Result, refl, sym, subst, ⊎_elim, arith}
+use Rattle.std.proofs.Common.{◌≡◌, ℕ, ◌+◌, ◌<◌, ◌&&◌, Bool, true, false, cond, List, [], ◌∷◌, drop, length, nat_le, replicate, slice_index_or, Some, None, Option, Ok, Err, Result, refl, sym, subst, ⊎_elim, arith}
 use Rattle.std.proofs.Math.ListN.{get_or-eq_default}
 use Rattle.std.proofs.lemmas.Bool.{cases_lt}
 use Rattle.std.proofs.lemmas.Bool.Decides.{nat_tests}
 use Rattle.std.proofs.lemmas.List.Elements.{All-append, All-drop, All-get_or, All-replicate, All-set}
 use Rattle.std.specs.Char.{is_ascii_digit}
 use Rattle.std.specs.List.{All, list_all}
-use Rattle.board.specs.Sizes.{cell_at}
+use Rattle.board.specs.Sizes.{area_asked, cell_at}
+use Rattle.board.specs.Tables.{bare_cell, barred_cell}
 use Rattle.board.specs.declared.cell.Cell.{Cell}
-use Rattle.console.specs.GapSums.{sheet_read}
+use Rattle.board.specs.declared.size.Dimensions.{Dimensions}
+use Rattle.console.specs.Gaps.{sheet_read}
 use Rattle.geodesics.specs.Fitting.{Fitting}
-use Rattle.measuring.specs.Boards.{Board, beyond}
-use Rattle.plate.specs.Edits.{bare_cell, barred_cell}
+use Rattle.measuring.specs.Boards.{Board}
+use Rattle.plate.specs.declared.edit.Edit.{Edit}
+use Rattle.plate.specs.declared.edit.Edit.TheVariants as edit
 use Rattle.sheets.specs.Lines.{and_then, edit_asked, edit_in, ended_lines, figure_in, figure_or_fault, fields_of, is_improper, keyword_in, leftover, pair_in, plate_asked}
-use Rattle.sheets.specs.Reading.{Reading, State, edit_fault, edit_read, edited, edits_read, end_fault, open_fault, opened, plate_read, read_whole, unless_at_fault}
+use Rattle.sheets.specs.Reading.{Reading, Entered, edit_fault, edit_read, edited, edits_read, end_fault, open_fault, opened, plate_read, read_whole, unless_at_fault}
 use Rattle.sheets.specs.Words.{number_of}
-use Rattle.sheets.specs.declared.edit.Edit.{Edit}
-use Rattle.sheets.specs.declared.edit.Edit.TheVariants as edit
 use Rattle.sheets.specs.declared.fault.Fault.{Fault}
 use Rattle.sheets.specs.declared.token.Keyword.{Keyword}
 use Rattle.sheets.specs.declared.token.Keyword.TheVariants as keyword
@@ -59,29 +60,29 @@ figure_small line fields field =
 
 pair_small : (line : ℕ) (fields : List (List ℕ)) (field : ℕ) → Each (λ pair. Small pair.0) (pair_in line fields field)
 pair_small line fields field =
-    each_then _ (figure_in line fields (field + 1)) _ (λ first is.
-    each_then _ (figure_in line fields (field + 2)) _ (λ second _.
-    each_ok _ (first, second) (figure_small line fields (field + 1) first is)))
+    each_then _ (figure_in line fields field) _ (λ first is.
+    each_then _ (figure_in line fields (field + 1)) _ (λ second _.
+    each_ok _ (first, second) (figure_small line fields field first is)))
 
 abbrev LowEdit : Edit → Type 0
-LowEdit (edit.Cell row column height pad) = Small height
+LowEdit (edit.Set row column height pad) = Small height
 LowEdit _ = Unit {0}
 
 asked_low : (line : ℕ) (fields : List (List ℕ)) (word : Keyword) → Each LowEdit (edit_asked line fields word)
 asked_low line fields keyword.Plate = each_err LowEdit _
 asked_low line fields keyword.Cell =
-    each_then LowEdit (pair_in line fields 0) _ (λ at _.
-    each_then LowEdit (pair_in line fields 2) _ (λ content is.
-    each_ok LowEdit (edit.Cell at.0 at.1 content.0 content.1) (pair_small line fields 2 content is)))
-asked_low line fields keyword.Bar = each_then LowEdit (pair_in line fields 0) _ (λ at _. each_ok LowEdit (edit.Bar at.0 at.1) tt)
-asked_low line fields keyword.Enrol = each_then LowEdit (pair_in line fields 0) _ (λ pair _. each_ok LowEdit (edit.Enrol pair.0 pair.1) tt)
+    each_then LowEdit (pair_in line fields 1) _ (λ at _.
+    each_then LowEdit (pair_in line fields 3) _ (λ content is.
+    each_ok LowEdit (edit.Set at.0 at.1 content.0 content.1) (pair_small line fields 3 content is)))
+asked_low line fields keyword.Bar = each_then LowEdit (pair_in line fields 1) _ (λ at _. each_ok LowEdit (edit.Bar at.0 at.1) tt)
+asked_low line fields keyword.Enrol = each_then LowEdit (pair_in line fields 1) _ (λ pair _. each_ok LowEdit (edit.Enrol pair.0 pair.1) tt)
 
 edit_low : (line : ℕ) (fields : List (List ℕ)) → Each LowEdit (edit_in line fields)
 edit_low line fields = each_then LowEdit (keyword_in line fields) _ (λ word _. asked_low line fields word)
 
-edited_low : (e : Edit) (s : State) → LowEdit e → All Low s.cells → All Low (edited e s).cells
-edited_low (edit.Cell row column height pad) s small low = All-set Low s.cells (cell_at s.draft.header.size row column) _ small low
-edited_low (edit.Bar row column) s small low = All-set Low s.cells (cell_at s.draft.header.size row column) barred_cell (omega arith) low
+edited_low : (e : Edit) (s : Entered) → LowEdit e → All Low s.cells → All Low (edited e s).cells
+edited_low (edit.Set row column height pad) s small low = All-set Low s.cells (cell_at s.size row column) _ small low
+edited_low (edit.Bar row column) s small low = All-set Low s.cells (cell_at s.size row column) barred_cell (omega arith) low
 edited_low (edit.Enrol pad group) s small low = low
 
 unless_low : (fault : Option Fault) (cells : List Cell) (groups : List ℕ) (on : Reading) →
@@ -89,26 +90,26 @@ unless_low : (fault : Option Fault) (cells : List Cell) (groups : List ℕ) (on 
 unless_low None cells groups on low then = then
 unless_low (Some fault) cells groups on low then = low
 
-edit_read_low : (r : Result Edit Fault) (on : Edit → Reading) (line : ℕ) (s : State) →
+edit_read_low : (r : Result Edit Fault) (on : Edit → Reading) (line : ℕ) (s : Entered) →
     All Low s.cells → ((e : Edit) → r ≡ Ok e → All Low (on e).cells) → All Low (edit_read r on line s).cells
 edit_read_low (Err fault) on line s low then = low
 edit_read_low (Ok e) on line s low then = unless_low (edit_fault line e s) s.cells s.groups (on e) low (then e refl)
 
-edits_low : (lines : List (List ℕ)) (rest : List ℕ) (line : ℕ) (s : State) → All Low s.cells → All Low (edits_read lines rest line s).cells
+edits_low : (lines : List (List ℕ)) (rest : List ℕ) (line : ℕ) (s : Entered) → All Low s.cells → All Low (edits_read lines rest line s).cells
 unfolding edits_read
 edits_low [] rest line s low = unless_low (end_fault rest line) s.cells s.groups (read_whole s) low low
 edits_low (first ∷ lines) rest line s low =
     edit_read_low (edit_in line (fields_of first)) (λ e. edits_read lines rest (line + 1) (edited e s)) line s low (λ e is.
     edits_low lines rest (line + 1) (edited e s) (edited_low e s (edit_low line (fields_of first) e is) low))
 
-plate_low : (asked : Result (ℕ × ℕ) Fault) (lines : List (List ℕ)) (rest : List ℕ) (cells : List Cell) (groups : List ℕ) →
+plate_low : (asked : Result Dimensions Fault) (lines : List (List ℕ)) (rest : List ℕ) (cells : List Cell) (groups : List ℕ) →
     All Low cells → All Low (plate_read asked lines rest cells groups).cells
 plate_low (Err fault) lines rest cells groups low = low
-plate_low (Ok size) lines rest cells groups low =
-    let bare = All-replicate Low (size.0 * size.1) bare_cell (omega arith) in
-    let behind = All-drop Low (size.0 * size.1) cells low in
-    unless_low (open_fault size.0 size.1 cells groups) cells groups _ low
-    (edits_low lines rest 2 (opened size.0 size.1 cells groups) (All-append Low _ _ bare behind))
+plate_low (Ok asked) lines rest cells groups low =
+    let bare = All-replicate Low (area_asked asked) bare_cell (omega arith) in
+    let behind = All-drop Low (area_asked asked) cells low in
+    unless_low (open_fault asked cells groups) cells groups _ low
+    (edits_low lines rest 2 (opened asked cells groups) (All-append Low _ _ bare behind))
 
 pub sheet_low : (sheet : List ℕ) → All Low (sheet_read sheet).cells
 sheet_low sheet =
@@ -119,6 +120,6 @@ sheet_low sheet =
 pub fitting_low : (b : Board) → All Low b.cells → Fitting b
 fitting_low b low i lt =
     ⊎_elim
-    (λ there. All-get_or Low b.cells i beyond there low)
-    (λ past. subst Low (sym (get_or-eq_default b.cells beyond past)) (omega arith))
+    (λ there. All-get_or Low b.cells i barred_cell there low)
+    (λ past. subst Low (sym (get_or-eq_default b.cells barred_cell past)) (omega arith))
     (cases_lt i (length b.cells))

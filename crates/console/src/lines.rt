@@ -7,8 +7,8 @@ use arrayvec::ArrayString;
 use itoa::Buffer;
 use sheets::Fault;
 
-// A line that lies in the value itself. The longest is a fault's, of at most 42 bytes: its own word of 5, the
-// layer's of at most 6, a line of at most 20 digits, a field and a number of at most 3 each, 4 tabs and the end.
+/// A line that lies in the value itself. The longest is a fault's, of at most 42 bytes: its own word of 5, the
+/// layer's of at most 6, a line of at most 20 digits, a field and a number of at most 3 each, 4 tabs and the end.
 pub type Line = ArrayString<64>;
 
 // A tab and a part behind what is there.

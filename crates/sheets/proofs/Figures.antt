@@ -44,7 +44,3 @@ number_is ds = figures_on_is 0 ds (omega arith)
 pub broken_off : (value : ℕ) (ds : List ℕ) (i d : ℕ) → i < length ds → get_or ds i 0 ≡ d → figure_on value d ≡ None → figures_on value (drop i ds) ≡ None
 broken_off value ds i d lt is none =
     at_drop_more (figures_on value) ds i 0 lt ∙ ap (λ x. option_and_then (λ more. figures_on more (drop (i + 1) ds)) (figure_on value x)) is ∙ ap (option_and_then (λ more. figures_on more (drop (i + 1) ds))) none
-
-pub went_on : (value : ℕ) (ds : List ℕ) (i d more : ℕ) → i < length ds → get_or ds i 0 ≡ d → figure_on value d ≡ Some more → figures_on value (drop i ds) ≡ figures_on more (drop (i + 1) ds)
-went_on value ds i d more lt is some =
-    at_drop_more (figures_on value) ds i 0 lt ∙ ap (λ x. option_and_then (λ more. figures_on more (drop (i + 1) ds)) (figure_on value x)) is ∙ ap (option_and_then (λ more. figures_on more (drop (i + 1) ds))) some

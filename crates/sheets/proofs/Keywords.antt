@@ -3,10 +3,10 @@ use Rattle.std.proofs.Common.{◌≡◌, ◌≢◌, ℕ, true, false, List, Some
 use Rattle.std.specs.Result.{IsErrAnd}
 use Rattle.std.specs.Str.{bytes_eq}
 use Rattle.std.proofs.lemmas.Slice.Eq.{bytes_eq-Decides}
-use Rattle.board.specs.declared.refusal.Refusal.{Refusal}
 use Rattle.sheets.specs.Lines.{fault_at, keyword_of, keyword_or_fault}
 use Rattle.sheets.specs.Words.{ReadsWord, word_of}
 use Rattle.sheets.specs.declared.fault.Fault.{Fault}
+use Rattle.sheets.specs.declared.refusal.Refusal.{Refusal}
 use Rattle.sheets.specs.declared.token.Keyword.{Keyword}
 use Rattle.sheets.specs.declared.token.Keyword.TheVariants.{Plate, Cell, Bar, Enrol}
 

@@ -3,4 +3,4 @@ pub mod Keywords
 pub mod Onward
 pub mod Pairs
 pub mod Parting
-pub mod States
+pub mod Opened

@@ -2,12 +2,13 @@
 use Rattle.std.specs.Prelude.{ℕ, ◌==◌, ◌+◌, ◌-◌, ◌*◌, Bool, true, cond, ◌&&◌, ◌||◌, List, [], ◌∷◌, ◌++◌, length, find, bytes_eq, nat_le, nat_lt, slice_index_or, Some, None, Ok, Err, Option, Result}
 use Rattle.std.specs.Char.{is_ascii_digit}
 use Rattle.std.specs.List.{list_all, list_any}
-use Rattle.board.specs.declared.refusal.Refusal.{Refusal}
-use Rattle.board.specs.declared.refusal.Refusal.TheVariants as refusal
+use Rattle.board.specs.declared.size.Dimensions.{Dimensions}
+use Rattle.plate.specs.declared.edit.Edit.{Edit}
+use Rattle.plate.specs.declared.edit.Edit.TheVariants as edit
 use Rattle.sheets.specs.Words.{number_of, word_of}
-use Rattle.sheets.specs.declared.edit.Edit.{Edit}
-use Rattle.sheets.specs.declared.edit.Edit.TheVariants as edit
 use Rattle.sheets.specs.declared.fault.Fault.{Fault}
+use Rattle.sheets.specs.declared.refusal.Refusal.{Refusal}
+use Rattle.sheets.specs.declared.refusal.Refusal.TheVariants as refusal
 use Rattle.sheets.specs.declared.token.Keyword.{Keyword}
 use Rattle.sheets.specs.declared.token.Keyword.TheVariants.{Plate, Cell, Bar, Enrol}
 
@@ -63,11 +64,14 @@ keyword_or_fault line field (Some keyword) = Ok keyword
 
 -- a keyword that this many figures follow; 11 where it asks for more or fewer
 abbrev pub if_counted : ℕ → ℕ → Keyword → Result Keyword Fault
-if_counted line count keyword = cond (count == figures_of keyword) (Ok keyword) (Err (fault_at line 0 refusal.Line))
+if_counted line count keyword =
+    cond (count == figures_of keyword) (Ok keyword) (Err (fault_at line 0 refusal.Line))
 
 -- the keyword of a line with these fields
 abbrev pub keyword_in : ℕ → List (List ℕ) → Result Keyword Fault
-keyword_in line fields = and_then (keyword_or_fault line 0 (keyword_of (slice_index_or fields 0 []))) (if_counted line (length fields - 1))
+keyword_in line fields =
+    and_then (keyword_or_fault line 0 (keyword_of (slice_index_or fields 0 [])))
+    (if_counted line (length fields - 1))
 
 -- no digit at all, or a 0 before another
 abbrev pub is_improper : List ℕ → Bool
@@ -76,7 +80,9 @@ is_improper (d ∷ ds) = d == 48 && nat_le 1 (length ds)
 
 -- the number that digits stand for, at most 65,535; none where a byte is no digit
 abbrev pub number_in : List ℕ → Option ℕ
-number_in digits = cond (list_all is_ascii_digit digits && nat_le (number_of digits) 65535) (Some (number_of digits)) None
+number_in digits =
+    cond (list_all is_ascii_digit digits && nat_le (number_of digits) 65535)
+    (Some (number_of digits)) None
 
 -- the number that a figure stands for
 abbrev pub figure_of : List ℕ → Option ℕ
@@ -84,7 +90,9 @@ figure_of digits = cond (is_improper digits) None (number_in digits)
 
 -- a number with one more digit behind it
 abbrev pub figure_on : ℕ → ℕ → Option ℕ
-figure_on value digit = cond (is_ascii_digit digit && nat_le (value * 10 + (digit - 48)) 65535) (Some (value * 10 + (digit - 48))) None
+figure_on value digit =
+    cond (is_ascii_digit digit && nat_le (value * 10 + (digit - 48)) 65535)
+    (Some (value * 10 + (digit - 48))) None
 
 abbrev pub figure_or_fault : ℕ → ℕ → Option ℕ → Result ℕ Fault
 figure_or_fault line field None = Err (fault_at line field refusal.Figure)
@@ -94,37 +102,43 @@ figure_or_fault line field (Some value) = Ok value
 abbrev pub figure_in : ℕ → List (List ℕ) → ℕ → Result ℕ Fault
 figure_in line fields field = figure_or_fault line field (figure_of (slice_index_or fields field []))
 
--- the two figures behind this field, from left to right
+-- two figures from this field on, from left to right
 abbrev pub pair_in : ℕ → List (List ℕ) → ℕ → Result (ℕ × ℕ) Fault
 pair_in line fields field =
-    and_then (figure_in line fields (field + 1)) (λ first.
-    and_then (figure_in line fields (field + 2)) (λ second. Ok (first, second)))
+    and_then (figure_in line fields field) (λ first.
+    and_then (figure_in line fields (field + 1)) (λ second. Ok (first, second)))
 
--- the rows and columns that a first line asks for; no other keyword opens a plate
-abbrev pub size_asked : ℕ → List (List ℕ) → Keyword → Result (ℕ × ℕ) Fault
-size_asked line fields Plate = pair_in line fields 0
-size_asked line fields Cell = Err (fault_at line 0 refusal.Order)
-size_asked line fields Bar = Err (fault_at line 0 refusal.Order)
-size_asked line fields Enrol = Err (fault_at line 0 refusal.Order)
+-- rows and columns
+abbrev pub as_dimensions : ℕ × ℕ → Result Dimensions Fault
+as_dimensions pair = Ok (record { rows = pair.0; columns = pair.1 })
+
+-- the dimensions that a first line asks for; no other keyword opens a plate
+abbrev pub dimensions_asked : ℕ → List (List ℕ) → Keyword → Result Dimensions Fault
+dimensions_asked line fields Plate = and_then (pair_in line fields 1) as_dimensions
+dimensions_asked line fields Cell = Err (fault_at line 0 refusal.Order)
+dimensions_asked line fields Bar = Err (fault_at line 0 refusal.Order)
+dimensions_asked line fields Enrol = Err (fault_at line 0 refusal.Order)
 
 -- the edit that a line after the first asks for; a second plate line is sent back
 abbrev pub edit_asked : ℕ → List (List ℕ) → Keyword → Result Edit Fault
 edit_asked line fields Plate = Err (fault_at line 0 refusal.Order)
 edit_asked line fields Cell =
-    and_then (pair_in line fields 0) (λ at.
-    and_then (pair_in line fields 2) (λ content. Ok (edit.Cell at.0 at.1 content.0 content.1)))
-edit_asked line fields Bar = and_then (pair_in line fields 0) (λ at. Ok (edit.Bar at.0 at.1))
-edit_asked line fields Enrol = and_then (pair_in line fields 0) (λ pair. Ok (edit.Enrol pair.0 pair.1))
+    and_then (pair_in line fields 1) (λ at.
+    and_then (pair_in line fields 3) (λ content. Ok (edit.Set at.0 at.1 content.0 content.1)))
+edit_asked line fields Bar = and_then (pair_in line fields 1) (λ at. Ok (edit.Bar at.0 at.1))
+edit_asked line fields Enrol =
+    and_then (pair_in line fields 1) (λ pair. Ok (edit.Enrol pair.0 pair.1))
 
 -- a line of this number: 11 comes first, then 13, then 12 for each figure
-abbrev pub size_in : ℕ → List (List ℕ) → Result (ℕ × ℕ) Fault
-size_in line fields = and_then (keyword_in line fields) (size_asked line fields)
+abbrev pub dimensions_in : ℕ → List (List ℕ) → Result Dimensions Fault
+dimensions_in line fields = and_then (keyword_in line fields) (dimensions_asked line fields)
 
 abbrev pub edit_in : ℕ → List (List ℕ) → Result Edit Fault
 edit_in line fields = and_then (keyword_in line fields) (edit_asked line fields)
 
 -- what the first of some lines asks for; with none, the line has no end
-abbrev pub first_asked : {X : Type 0} → (ℕ → List (List ℕ) → Result X Fault) → ℕ → List (List ℕ) → Result X Fault
+abbrev pub first_asked : {X : Type 0} → (ℕ → List (List ℕ) → Result X Fault) → ℕ → List (List ℕ) →
+    Result X Fault
 first_asked asked line [] = Err (fault_at line 0 refusal.Line)
 first_asked asked line (first ∷ lines) = asked line (fields_of first)
 
@@ -132,19 +146,21 @@ first_asked asked line (first ∷ lines) = asked line (fields_of first)
 abbrev pub too_long : ℕ → Result Unit Fault
 too_long bytes = cond (nat_lt 32768 bytes) (Err (fault_at 0 0 refusal.Long)) (Ok tt)
 
--- what a sheet of this many bytes asks for as its plate, where so many lines are read and these bytes are not: 14 comes first, then 13 where
--- a line is read already or no byte is left
-abbrev pub plate_asked : ℕ → ℕ → List ℕ → Result (ℕ × ℕ) Fault
+-- what a sheet of this many bytes asks for as its plate, where so many lines are read and these
+-- bytes are not: 14 comes first, then 13 where a line is read already or no byte is left
+abbrev pub plate_asked : ℕ → ℕ → List ℕ → Result Dimensions Fault
 plate_asked bytes lines unread =
     and_then (too_long bytes) (λ _.
     cond (nat_lt 0 lines || (length unread == 0)) (Err (fault_at (lines + 1) 0 refusal.Order))
-    (first_asked size_in (lines + 1) (ended_lines unread)))
+    (first_asked dimensions_in (lines + 1) (ended_lines unread)))
 
 abbrev pub some_edit : Edit → Result (Option Edit) Fault
 some_edit e = Ok (Some e)
 
--- what the next line after the first asks for, if there is one; where no line is read yet, the plate's line is missing
+-- what the next line after the first asks for, if there is one; where no line is read yet, the
+-- plate's line is missing
 abbrev pub edit_next : ℕ → ℕ → List ℕ → Result (Option Edit) Fault
 edit_next bytes lines unread =
     cond (lines == 0) (and_then (too_long bytes) (λ _. Err (fault_at 1 0 refusal.Order)))
-    (cond (length unread == 0) (Ok None) (and_then (first_asked edit_in (lines + 1) (ended_lines unread)) some_edit))
+    (cond (length unread == 0) (Ok None)
+    (and_then (first_asked edit_in (lines + 1) (ended_lines unread)) some_edit))

@@ -3,11 +3,10 @@ ghost use Rattle.std.specs.Prelude.{◌≡◌, Some};
 ghost use Rattle.sheets.specs.Words.{fault_text, layer_of, name_of};
 ghost use Rattle.sheets.specs.Lines.{fault_at};
 
-use crate::Place;
-use board::Refusal;
+use crate::{Place, Refusal};
 use std::fmt;
 
-// Who found the fault: the plate's own call, the reading of a figure, or the reading of the sheet.
+/// Who found the fault: the plate's own call, the reading of a figure, or the reading of the sheet.
 #[derive(Clone, Copy, Debug, PartialEq, Eq)]
 pub enum Layer {
     Plate,
@@ -16,7 +15,7 @@ pub enum Layer {
 }
 
 impl Layer {
-    // The word that `Display` prints, for whoever wants it alone.
+    /// The word that `Display` prints, for whoever wants it alone: `plate`, `figure` or `sheet`.
     pub fn name(self) -> &'static str
         ensures { result.now ≡ name_of self }
     {
@@ -36,7 +35,8 @@ impl fmt::Display for Layer {
     }
 }
 
-// A refusal with the line, counted from 1, and the field at fault; the line's word is field 0.
+/// A refusal with the line, counted from 1, and the field at fault; the line's word is field 0, and stands for the line as a whole.
+/// A sheet that is too long has line 0.
 #[derive(Clone, Copy, Debug, PartialEq, Eq)]
 pub struct Fault {
     pub line: usize,
@@ -45,6 +45,7 @@ pub struct Fault {
 }
 
 impl Fault {
+    /// The fault of a field.
     pub fn at(place: Place, refusal: Refusal) -> Fault
         ensures { result ≡ fault_at place.line place.field refusal }
     {
@@ -55,15 +56,14 @@ impl Fault {
         }
     }
 
+    /// Who found it, which follows from the refusal.
     pub fn layer(self) -> Layer
         ensures { result ≡ layer_of self.refusal }
     {
         match self.refusal {
-            Refusal::Size | Refusal::Tables | Refusal::Off | Refusal::Pad | Refusal::Group => {
-                Layer::Plate
-            }
+            Refusal::Plate(_) => Layer::Plate,
             Refusal::Figure => Layer::Figure,
-            _ => Layer::Sheet,
+            Refusal::Line | Refusal::Order | Refusal::Long => Layer::Sheet,
         }
     }
 }

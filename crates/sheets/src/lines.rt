@@ -1,18 +1,19 @@
 // Reading a sheet line by line.
 ghost use Rattle.std.specs.Prelude.{◌≡◌, ◌+◌, [], length, Ok, Err, MatchResult, OnOk, OnErr};
-ghost use Rattle.board.specs.declared.refusal.Refusal.TheVariants as refusal;
+ghost use Rattle.sheets.specs.declared.refusal.Refusal.TheVariants as refusal;
 ghost use Rattle.sheets.specs.Lines.{ended_lines, fault_at, too_long};
 ghost use Rattle.sheets.specs.Readers.{Goes, Parts, Passes, next_edit, next_plate, unread};
 
 use crate::line::{Line, split_once};
-use crate::{Edit, Fault, SheetReader};
-use board::Refusal;
+use crate::{Fault, Refusal, SheetReader};
+use board::Dimensions;
+use plate::Edit;
 
-// The longest sheet, in bytes.
+/// The longest sheet, in bytes.
 pub const LONGEST: usize = 32768;
 
 impl<'a> SheetReader<'a> {
-    // A reader at the start of a sheet.
+    /// A reader at the start of a sheet.
     pub fn new(sheet: &'a [u8]) -> SheetReader<'a>
         ensures sheet { result.sheet ≡ sheet.entry }
         ensures place { result.place ≡ 0 }
@@ -25,7 +26,7 @@ impl<'a> SheetReader<'a> {
         }
     }
 
-    // How many lines are read: the number of the last one, counted from 1.
+    /// How many lines are read: the number of the last one, counted from 1.
     pub fn line(&self) -> usize
         ensures { result ≡ self.now.line }
     {
@@ -59,7 +60,11 @@ impl<'a> SheetReader<'a> {
 
     // The next line, without its end.
     fn next_line(&self) -> Result<&'a [u8], Fault>
-        ensures { MatchResult result (λ line. (rest : _) × Parts 10 (unread self.now) line.now rest) (λ fault. (ended_lines (unread self.now) ≡ []) × (fault ≡ fault_at (self.now.line + 1) 0 refusal.Line)) }
+        ensures { MatchResult result
+            (λ line. (rest : _) × Parts 10 (unread self.now) line.now rest)
+            (λ fault.
+            (ended_lines (unread self.now) ≡ []) ×
+            (fault ≡ fault_at (self.now.line + 1) 0 refusal.Line)) }
     {
         let unread = &self.sheet[self.place..];
         let (line, _) = split_once(unread, b'\n').ok_or(self.fault(Refusal::Line))?;
@@ -75,8 +80,9 @@ impl<'a> SheetReader<'a> {
         self.line += 1;
     }
 
-    // Reads the sheet's first line, which gives the rows and columns. After a fault the reader is where it was.
-    pub fn plate_line(&mut self) -> Result<(u16, u16), Fault>
+    /// Reads the sheet's first line, which gives the plate's dimensions. Sent back: 14, then 13 where a line is read already or no byte is
+    /// left, and the line's own 11 to 13. After a fault the reader is where it was.
+    pub fn plate_line(&mut self) -> Result<Dimensions, Fault>
         ensures answer { result ≡ next_plate self.old }
         ensures passed { OnOk result (Passes self.old self.new) }
         ensures fault { OnErr result (self.new ≡ self.old) }
@@ -86,12 +92,13 @@ impl<'a> SheetReader<'a> {
             return Err(self.fault(Refusal::Order));
         }
         let line = self.next_line()?;
-        let size = Line::new(line, self.line + 1).size()?;
+        let dimensions = Line::new(line, self.line + 1).dimensions()?;
         self.pass(line);
-        Ok(size)
+        Ok(dimensions)
     }
 
-    // Reads the next line after the first, if there is one. After a fault, and at the sheet's end, the reader is where it was.
+    /// Reads the next line after the first, if there is one. Sent back: 14 and 13 where no line is read yet, and the line's own 11 to 13.
+    /// After a fault, and at the sheet's end, the reader is where it was.
     pub fn next_edit(&mut self) -> Result<Option<Edit>, Fault>
         ensures answer { result ≡ next_edit self.old }
         ensures after { Goes self.old self.new result }

@@ -1,27 +1,38 @@
 // Tokens: the fields of a line.
 ghost use Rattle.std.specs.Prelude.{◌≡◌};
 ghost use Rattle.sheets.specs.Lines.{figure_of, figure_on, figures_of, number_in};
-ghost use Rattle.sheets.specs.Tokens.{token_figure, token_keyword};
+ghost use Rattle.sheets.specs.Tokens.{field_at, field_of, next_place, token_figure, token_keyword};
 ghost use Rattle.sheets.specs.Words.{ReadsWord};
 
-use crate::Fault;
-use board::Refusal;
+use crate::{Fault, Refusal};
 
-// Where a field stands: its line, counted from 1, and its number in the line; the line's word is field 0.
+/// Where a field stands: its line, counted from 1, and its number in the line, from 0 to 255; the line's word is field 0.
 #[derive(Clone, Copy, Debug, PartialEq, Eq)]
 pub struct Place {
     pub line: usize,
     pub field: u8,
 }
 
-// A field of the sheet, which borrows its bytes: a line's word, or a figure.
+impl Place {
+    // The place behind this one, whose field stays at 255 once it is there.
+    pub(crate) fn next(self) -> Place
+        ensures { result ≡ next_place self }
+    {
+        Place {
+            line: self.line,
+            field: self.field.saturating_add(1),
+        }
+    }
+}
+
+/// A field of a line, which borrows its bytes: the line's word, or a figure.
 #[derive(Clone, Copy)]
 pub enum Token<'a> {
     Word { bytes: &'a [u8], place: Place },
     Figure { bytes: &'a [u8], place: Place },
 }
 
-// The words that a line can begin with.
+/// The words that a sheet's line can begin with.
 #[derive(Clone, Copy, Debug, PartialEq, Eq)]
 pub enum Keyword {
     Plate,
@@ -31,7 +42,7 @@ pub enum Keyword {
 }
 
 impl Keyword {
-    // How many figures follow the word.
+    /// How many figures follow the word: 4 behind `cell`, else 2.
     pub fn figures(self) -> usize
         ensures { result ≡ figures_of self }
     {
@@ -42,7 +53,7 @@ impl Keyword {
     }
 }
 
-// Another word is a fault of its line.
+/// Another word is a fault of its line.
 impl TryFrom<&[u8]> for Keyword {
     type Error = Refusal;
 
@@ -90,8 +101,21 @@ fn number(digits: &[u8]) -> Option<u16>
     }
 }
 
+impl<'a> Token<'a> {
+    // The token of a field.
+    pub(crate) fn at(place: Place, bytes: &'a [u8]) -> Token<'a>
+        ensures { field_of result ≡ field_at place bytes.now }
+    {
+        if place.field == 0 {
+            Token::Word { bytes, place }
+        } else {
+            Token::Figure { bytes, place }
+        }
+    }
+}
+
 impl Token<'_> {
-    // What the word says; another word is a fault of the line.
+    /// What a sheet's word says; another word, and a figure, is a fault of the line, 11.
     pub fn keyword(self) -> Result<Keyword, Fault>
         ensures { result ≡ token_keyword self.entry }
     {
@@ -103,7 +127,7 @@ impl Token<'_> {
         }
     }
 
-    // What the figure says.
+    /// The number that a figure stands for, from 0 to 65,535. Other bytes, a 0 before a digit, and a word are a fault, 12.
     pub fn figure(self) -> Result<u16, Fault>
         ensures { result ≡ token_figure self.entry }
     {

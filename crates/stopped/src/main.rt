@@ -26,14 +26,13 @@ mod reading;
 #[cfg(test)]
 mod tests {
     use super::*;
-    use board::Refusal;
-    use sheets::Fault;
+    use sheets::{Fault, Refusal};
     use std::io::{Error, ErrorKind, Write};
 
     const TORN: Fault = Fault {
         line: 12,
         field: 3,
-        refusal: Refusal::Torn,
+        refusal: Refusal::Plate(plate::Refusal::Torn),
     };
 
     // A writer that takes a few bytes and then has no room.
@@ -60,8 +59,9 @@ mod tests {
         let mut out = Vec::new(rt.alloc());
         finish(&mut out, Err(Stop::Fault(TORN)))?;
         finish(&mut out, Ok(()))?;
-        finish(&mut out, Err(Stop::Refused(Refusal::Setting)))?;
-        let lines = b"fault\tsheet\t12\t3\t8\nrefused\t9\n";
+        finish(&mut out, Err(Stop::Refused(plate::Refusal::Outdated)))?;
+        finish(&mut out, Err(Stop::Setting(gauges::Refusal::Setting)))?;
+        let lines = b"fault\tplate\t12\t3\t8\nrefused\t6\nrefused\t9\n";
         assert_eq!(rt; out.as_slice(), lines.as_slice());
         Ok(())
     }
