@@ -11,10 +11,10 @@ pub fn histories_compute()
 // The expected answers are worked out from the rules, and not taken from what the library answers.
 #[cfg(test)]
 mod tests {
-    use board::{Cell, MapRecord, Refusal};
+    use board::{Cell, Dimensions, MapRecord};
     use gauges::{Chessboard, WholeRuler};
     use lengths::Whole;
-    use plate::Draft;
+    use plate::{Draft, Edit, Refusal};
     use queue::Offer;
     use runs::{
         Answer, Call, Plate, Reply, RulerCall, Space, Tables, carry_out_by_ruler, run, run_by_ruler,
@@ -23,7 +23,15 @@ mod tests {
     use std::process::Abort;
     use std::test::Fail;
 
-    const BY_CHESSBOARD: WholeRuler<Chessboard> = WholeRuler(Chessboard);
+    fn by_chessboard() -> WholeRuler<Chessboard> {
+        WholeRuler::new(Chessboard)
+    }
+
+    // The plate of most tests, 1 × 3.
+    const STRIP: Dimensions = Dimensions {
+        rows: 1,
+        columns: 3,
+    };
 
     // What stands in the maps before a run.
     const OLD: MapRecord<u64> = MapRecord {
@@ -45,7 +53,7 @@ mod tests {
 
     // A ruler's run on a plate of 1 × 3, over tables that hold something else.
     fn run_strip(alloc: Global, calls: &[RulerCall]) -> Result<Vec<Answer<Whole>>, Fail> {
-        let space = Space::reserve(alloc, 1, 3, calls)?;
+        let space = Space::reserve(alloc, STRIP, calls)?;
         let tables = Tables {
             cells: &mut [HIGH; 4],
             groups: &mut [2; 64],
@@ -53,7 +61,7 @@ mod tests {
             second: &mut [OLD; 5],
             entries: &mut [NO_OFFER; 27],
         };
-        Ok(run_by_ruler(&BY_CHESSBOARD, space, tables)?)
+        Ok(run_by_ruler(&by_chessboard(), space, tables)?)
     }
 
     // Checks that each answer is printed as wanted, and that there are no others.
@@ -72,26 +80,26 @@ mod tests {
 
     // Heights 0 5 0, pad 1 at the left in group 1 and pad 2 at the right in group 2.
     const BUILT: [RulerCall; 5] = [
-        RulerCall::Plain(Call::Set {
+        RulerCall::Plain(Call::Edit(Edit::Set {
             row: 0,
             column: 0,
             height: 0,
             pad: 1,
-        }),
-        RulerCall::Plain(Call::Set {
+        })),
+        RulerCall::Plain(Call::Edit(Edit::Set {
             row: 0,
             column: 1,
             height: 5,
             pad: 0,
-        }),
-        RulerCall::Plain(Call::Set {
+        })),
+        RulerCall::Plain(Call::Edit(Edit::Set {
             row: 0,
             column: 2,
             height: 0,
             pad: 2,
-        }),
-        RulerCall::Plain(Call::Enrol { pad: 1, group: 1 }),
-        RulerCall::Plain(Call::Enrol { pad: 2, group: 2 }),
+        })),
+        RulerCall::Plain(Call::Edit(Edit::Enrol { pad: 1, group: 1 })),
+        RulerCall::Plain(Call::Edit(Edit::Enrol { pad: 2, group: 2 })),
     ];
 
     const MEASURE_1: RulerCall = RulerCall::Plain(Call::Measure { group: 1 });
@@ -110,7 +118,7 @@ mod tests {
         group: 1,
     });
 
-    const BAR: RulerCall = RulerCall::Plain(Call::Bar { row: 0, column: 1 });
+    const BAR: RulerCall = RulerCall::Plain(Call::Edit(Edit::Bar { row: 0, column: 1 }));
 
     fn way(room: usize) -> RulerCall {
         RulerCall::Plain(Call::Way {
@@ -238,20 +246,34 @@ mod tests {
     }
 
     #[test]
+    fn nothing_is_current_at_first(rt: HostRuntime) -> Result<(), Fail> {
+        check_strip(
+            &rt,
+            &[
+                RulerCall::Plain(Call::Seal),
+                RulerCall::Gap,
+                RulerCall::Route { room: 3 },
+                DISTANCE,
+            ],
+            &["Refused(Outdated)"; 4],
+        )
+    }
+
+    #[test]
     fn calls_sent_back_change_nothing(rt: HostRuntime) -> Result<(), Fail> {
         check_strip(
             &rt,
             &[
                 MEASURE_1,
-                RulerCall::Plain(Call::Set {
+                RulerCall::Plain(Call::Edit(Edit::Set {
                     row: 0,
                     column: 1,
                     height: 0,
                     pad: 65,
-                }),
-                RulerCall::Plain(Call::Bar { row: 1, column: 0 }),
-                RulerCall::Plain(Call::Enrol { pad: 0, group: 1 }),
-                RulerCall::Plain(Call::Enrol { pad: 1, group: 3 }),
+                })),
+                RulerCall::Plain(Call::Edit(Edit::Bar { row: 1, column: 0 })),
+                RulerCall::Plain(Call::Edit(Edit::Enrol { pad: 0, group: 1 })),
+                RulerCall::Plain(Call::Edit(Edit::Enrol { pad: 1, group: 3 })),
                 RulerCall::Plain(Call::Measure { group: 3 }),
                 DISTANCE,
             ],
@@ -267,7 +289,8 @@ mod tests {
         )
     }
 
-    // A way and a route ask for as much memory as the plate needs, however much room they name, and for none where they are sent back.
+    // A way and a route ask for as much memory as the plate needs, however much room they name, and
+    // for none where they are sent back.
     #[test]
     fn rooms_are_enormous(rt: HostRuntime) -> Result<(), Fail> {
         let route = RulerCall::Route { room: usize::MAX };
@@ -300,8 +323,9 @@ mod tests {
         )
     }
 
-    // Where memory is short no run is made, and the tables hold what they held; else every call is answered. Nothing else here asks for memory,
-    // so that the gate can let each allocation fail in turn.
+    // Where memory is short no run is made, and the tables hold what they held; else every call is
+    // answered. Nothing else here asks for memory, so that the gate can let each allocation fail in
+    // turn.
     #[test]
     fn short_memory_leaves_the_tables(rt: HostRuntime) -> Result<(), Fail> {
         let (mut cells, mut groups) = ([HIGH; 3], [2; 64]);
@@ -310,7 +334,7 @@ mod tests {
         let route = RulerCall::Route { room: usize::MAX };
         let calls = [way(usize::MAX), MEASURE_1, route, MEASURE_2, way(2), route];
         let mut answered = 0;
-        if let Ok(space) = Space::reserve(rt.alloc(), 1, 3, &calls) {
+        if let Ok(space) = Space::reserve(rt.alloc(), STRIP, &calls) {
             let tables = Tables {
                 cells: &mut cells,
                 groups: &mut groups,
@@ -318,7 +342,7 @@ mod tests {
                 second: &mut second,
                 entries: &mut entries,
             };
-            answered = run_by_ruler(&BY_CHESSBOARD, space, tables)?.len();
+            answered = run_by_ruler(&by_chessboard(), space, tables)?.len();
         }
         let made = answered == calls.len();
         assert!(rt; made || answered == 0);
@@ -337,7 +361,7 @@ mod tests {
         rows: u16,
         calls: &[Call],
     ) -> Result<Result<Vec<Answer<Whole>>, Refusal>, AllocError> {
-        let space = Space::reserve(alloc, rows, 1, calls)?;
+        let space = Space::reserve(alloc, Dimensions { rows, columns: 1 }, calls)?;
         let tables = Tables {
             cells: &mut [HIGH; 1],
             groups: &mut [2; 64],
@@ -345,7 +369,7 @@ mod tests {
             second: &mut [OLD; 0],
             entries: &mut [NO_OFFER; 9],
         };
-        Ok(run(&BY_CHESSBOARD, space, tables))
+        Ok(run(&by_chessboard(), space, tables))
     }
 
     #[test]
@@ -376,7 +400,8 @@ mod tests {
         Ok(())
     }
 
-    // What the last of the calls on the strip replies that a client makes one by one, over a list and marks of its own.
+    // What the last of the calls on the strip replies that a client makes one by one, over a list
+    // and marks of its own.
     fn last_reply(
         calls: &[RulerCall],
         list: &mut [u16],
@@ -385,11 +410,11 @@ mod tests {
         let (mut cells, mut groups) = ([HIGH; 4], [2; 64]);
         let (mut first, mut second) = ([OLD; 3], [OLD; 5]);
         let mut entries = [NO_OFFER; 27];
-        let mut plate = Plate::Draft(Draft::open(1, 3, &mut cells, &mut groups)?);
+        let mut plate = Plate::Draft(Draft::open(STRIP, &mut cells, &mut groups)?);
         let mut last = Reply::Done;
         for call in BUILT.iter().chain(calls) {
             let (after, reply) = carry_out_by_ruler(
-                &BY_CHESSBOARD,
+                &by_chessboard(),
                 plate,
                 &mut cells,
                 &mut groups,
@@ -418,7 +443,8 @@ mod tests {
         Ok(())
     }
 
-    // A way into a list just long enough, into one that is too short however much room the call names, and of an unreached cell.
+    // A way into a list just long enough, into one that is too short however much room the call
+    // names, and of an unreached cell.
     #[test]
     fn ways_count_their_cells(rt: HostRuntime) -> Result<(), Fail> {
         let mut list = [77; 3];

@@ -1,58 +1,94 @@
 -- Measuring into the map that is lent for a group. Assumes nothing.
-use Rattle.std.proofs.Common.{◌≡◌, ℕ, true, false, cond, eqb, List, length, Option, Result, sym, subst}
-use Rattle.std.proofs.lemmas.Bool.{eq-eqb, ne_eqb}
-use Rattle.board.specs.Sizes.{area}
+use Rattle.std.proofs.Common.{◌≡◌, ℕ, Bool, true, false, cond, ◌==◌, List, length, Some, None, Option, Result, subst, ap, ◌∙◌}
+use Rattle.board.specs.Outcomes.{after}
 use Rattle.board.specs.declared.cell.Cell.{Cell}
 use Rattle.board.specs.declared.record.MapRecord.{MapRecord}
-use Rattle.board.specs.declared.refusal.Refusal.{Refusal}
-use Rattle.lengths.specs.Kinds.{Kind, Rows}
-use Rattle.gauges.specs.Meanings.{Crossing}
 use Rattle.measuring.specs.Boards.{on}
-use Rattle.measuring.specs.Paths.{measuring}
+use Rattle.measuring.specs.Maps.{filled}
+use Rattle.measuring.specs.Paths.{Measuring, measuring}
 use Rattle.measuring.specs.declared.Counts.{Counts}
-use Rattle.plate.specs.Maps.{Measures, MeasuresMap, measure_refusal}
+use Rattle.plate.specs.Maps.{Kept, Measures}
+use Rattle.plate.specs.Refusals.{Standing, measure_refusal}
 use Rattle.plate.specs.declared.header.Draft.{Draft}
+use Rattle.plate.specs.declared.refusal.Refusal.{Refusal}
 use Rattle.queue.specs.declared.offer.Offer.{Offer}
+use Rattle.runs.specs.Measurers.{Measurer}
+use Rattle.runs.specs.Plates.{state}
 use Rattle.runs.specs.Said.{Said}
 use Rattle.runs.specs.Said.Said.{measured}
-use Rattle.runs.specs.Steps.{MeasureStep, State, map_of, telling}
+use Rattle.runs.specs.Steps.{MeasureStep, State, telling}
+use Rattle.runs.specs.declared.plates.Plate.TheVariants as plate
 
--- a draft with its tables
-abbrev pub drafted : {R : Type 0} → Draft → List Cell → List ℕ → List (MapRecord R) → List (MapRecord R) → State R
-drafted d cells groups first second = record { header = d.header; is_sealed = false; cells = cells; groups = groups; first = first; second = second }
+-- a state with this standing, queue, and map in the place of the one that is lent
+abbrev pub lent : {R : Type 0} → Bool → State R → Standing → List (MapRecord R) → List (Offer R) →
+    State R
+lent is_first s p map queue =
+    record s {
+      plate = p;
+      first = cond is_first map s.first;
+      second = cond is_first s.second map;
+      queue = queue;
+    }
 
-module _ {L R : Type 0} (kind : Kind L) (rows : Rows L R) (g : Crossing L) (d d' : Draft) (cells : List Cell) (groups : List ℕ) (group : ℕ) (queue queue' : List (Offer R)) (r : Result Counts Refusal) (answer : Said L) (told : answer ≡ telling measured r) where
-  -- what measuring into a map of this length is sent back by
-  abbrev back : List (MapRecord R) → Option Refusal
-  back lent = measure_refusal d cells groups group (length lent) (length queue)
+abbrev pub map_at : {R : Type 0} → Bool → State R → List (MapRecord R)
+map_at is_first s = cond is_first s.first s.second
 
-  abbrev pub Carried : List (MapRecord R) → List (MapRecord R) → List (MapRecord R) → List (MapRecord R) → Type 0
-  Carried first second first' second' =
-      MeasureStep (length queue) (drafted d cells groups first second) answer (drafted d' cells groups first' second') rows (measuring kind g (on d.header.size cells groups) group) (back (map_of (drafted d cells groups first second) group))
+-- the map that is filled is the one that is lent
+filled_where : {L R : Type 0} (m : Measuring L R) (is_first : Bool) (refused : Option Refusal)
+    (s : State R) (p then : Standing) (map : List (MapRecord R)) (n : ℕ) (queue : List (Offer R)) →
+    p ≡ after refused s.plate then →
+    map ≡ after refused (map_at is_first s) (filled m (map_at is_first s)) →
+    Kept refused n s.queue queue →
+    lent is_first s p map queue
+    ≡ after refused s (record s {
+      plate = then;
+      first = cond is_first (filled m s.first) s.first;
+      second = cond is_first s.second (filled m s.second);
+      queue = queue;
+    })
+filled_where m true None s p then map n queue plate table kept =
+    λ k. lent true s (plate k) (table k) queue
+filled_where m false None s p then map n queue plate table kept =
+    λ k. lent false s (plate k) (table k) queue
+filled_where m true (Some e) s p then map n queue plate table kept =
+    λ k. lent true s (plate k) (table k) (kept k)
+filled_where m false (Some e) s p then map n queue plate table kept =
+    λ k. lent false s (plate k) (table k) (kept k)
 
-  module _ (first second map' : List (MapRecord R)) where
-    pub lent_first : group ≡ 1 → Measures (back first) group (area d.header.size) d d' first map' queue queue' r → MeasuresMap (back first) rows (measuring kind g (on d.header.size cells groups) group) first map' r → Carried first second map' second
-    lent_first one measures exact =
-        let e : eqb group 1 ≡ true = eq-eqb group 1 one in
-        record {
-          queue = queue;
-          queue_after = queue';
-          result = r;
-          measures = let b = sym e in subst (λ b. Measures (back (cond b first second)) group (area d.header.size) d d' (cond b first second) (cond b map' second) queue queue' r) b measures;
-          exact = let b = sym e in subst (λ b. MeasuresMap (back (cond b first second)) rows (measuring kind g (on d.header.size cells groups) group) (cond b first second) (cond b map' second) r) b exact;
-          told = told;
-          rest = sym (λ k. drafted d' cells groups (cond (e k) map' first) (cond (e k) second second));
-        }
+module _ {L R : Type 0} (by : Measurer L R) (d d' : Draft) (cells : List Cell) (groups : List ℕ)
+    (group : ℕ) (first second map : List (MapRecord R)) (queue queue' : List (Offer R))
+    (r : Result Counts Refusal) (answer : Said L) (told : answer ≡ telling measured r)
+    (long : length queue' ≡ length queue) where
+  abbrev start : State R
+  start = state (plate.Draft d) cells groups first second queue
 
-    pub lent_second : (group ≡ 1 → ⊥) → Measures (back second) group (area d.header.size) d d' second map' queue queue' r → MeasuresMap (back second) rows (measuring kind g (on d.header.size cells groups) group) second map' r → Carried first second first map'
-    lent_second other measures exact =
-        let e : eqb group 1 ≡ false = ne_eqb group 1 other in
-        record {
-          queue = queue;
-          queue_after = queue';
-          result = r;
-          measures = let b = sym e in subst (λ b. Measures (back (cond b first second)) group (area d.header.size) d d' (cond b first second) (cond b first map') queue queue' r) b measures;
-          exact = let b = sym e in subst (λ b. MeasuresMap (back (cond b first second)) rows (measuring kind g (on d.header.size cells groups) group) (cond b first second) (cond b first map') r) b exact;
-          told = told;
-          rest = sym (λ k. drafted d' cells groups (cond (e k) first first) (cond (e k) second map'));
-        }
+  abbrev back : Bool → Option Refusal
+  back is_first = measure_refusal d.header.size (length cells) (length groups)
+      (length (map_at is_first start)) (length queue) group
+
+  abbrev m : Measuring L R
+  m = measuring by.kind by.gauge (on d.header.size cells groups) group
+
+  abbrev Done : Bool → Type 0
+  Done is_first = Measures (back is_first) m d.header d'.header
+      (map_at is_first start) map queue queue' r
+
+  abbrev CarriedOut : Bool → Type 0
+  CarriedOut is_first =
+      let end = state (plate.Draft d') cells groups (cond is_first map first)
+      (cond is_first second map) queue' in
+      MeasureStep by start answer end m (back (group == 1))
+
+  at_group : Done (group == 1) → CarriedOut (group == 1)
+  at_group measures = record {
+    queue = queue';
+    kept = measures.queue;
+    long = long;
+    told = told ∙ ap (telling measured) measures.answer;
+    state = filled_where m (group == 1)
+        (back (group == 1)) start _ _ map _ queue' measures.header measures.table measures.queue;
+  }
+
+  -- the first map is lent for group 1, and the second for any other
+  pub measured_into : (is_first : Bool) → (group == 1) ≡ is_first → Done is_first → CarriedOut is_first
+  measured_into is_first is = subst (λ b. Done b → CarriedOut b) is at_group

@@ -15,7 +15,6 @@ pub mod Replied
 pub mod Unlisted
 pub mod Enough
 pub mod Taken
-pub mod Sizes
+pub mod Unmoved
 pub mod Leading
-pub mod Heights
 pub mod Sums

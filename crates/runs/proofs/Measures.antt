@@ -1,196 +1,152 @@
--- One step: measuring, seal and break. Assumes nothing.
-use Rattle.std.proofs.Common.{◌≡◌, ℕ, ◌*◌, ◌≤◌, ◌⊎◌, Bool, true, false, cond, ◌||◌, ◌==◌, ltb, List, ◌++◌, length, take, drop, Some, None, Option, sym, refl, ap, ◌∙◌, subst, ⊎_elim, arith}
+-- One step: measuring. Assumes nothing.
+use Rattle.std.proofs.Common.{◌≡◌, ℕ, ◌≤◌, Bool, true, false, cond, not, ◌||◌, ◌==◌, List, length, drop, None, Some, Option, sym, refl, ap, ◌∙◌, subst, subst₂, arith}
+use Rattle.std.proofs.lemmas.Bool.{eqb-true, ltb-false, or_parts}
 use Rattle.std.proofs.lemmas.Bool.Decides.{nat_tests}
-use Rattle.std.proofs.lemmas.List.{length-append, length-drop}
-use Rattle.std.proofs.lemmas.List.FromFn.{length-map-range_with_len}
-use Rattle.std.proofs.Math.Seq.{take-append_seam}
+use Rattle.std.proofs.lemmas.List.{length-append, length-drop, take_at}
 use Rattle.board.specs.Groups.{no_group}
-use Rattle.board.specs.Refusals.{after, answered, refuse}
 use Rattle.board.specs.Sizes.{area}
-use Rattle.board.specs.declared.cell.Cell.{Cell}
 use Rattle.board.specs.declared.record.MapRecord.{MapRecord}
-use Rattle.board.specs.declared.refusal.Refusal.{Refusal}
-use Rattle.board.specs.declared.refusal.Refusal.TheVariants.{Tables, Group}
-use Rattle.board.specs.declared.size.Size.{Size}
-use Rattle.lengths.specs.Kinds.{Kind, Rows, KindLaws}
-use Rattle.gauges.specs.Meanings.{Crossing, Lawful}
-use Rattle.measuring.specs.Boards.{on}
-use Rattle.measuring.specs.Maps.{counts_of, filled, measured_map, record_at}
-use Rattle.measuring.specs.Paths.{Measuring, measuring}
-use Rattle.measuring.specs.Rankings.{ranking}
-use Rattle.geodesics.specs.Fitting.{Fitting}
+use Rattle.measuring.specs.Boards.{Board, on}
+use Rattle.measuring.specs.Maps.{counts_of, filled, measured_map}
+use Rattle.measuring.specs.Paths.{Measuring}
+use Rattle.measuring.proofs.Maps.{map_length}
+use Rattle.geodesics.specs.Unique.{SameBoard}
 use Rattle.geodesics.proofs.SameBoards.{one_map, same_counts}
-use Rattle.plate.specs.Seals.{seal_refusal}
+use Rattle.plate.specs.Headers.{renewed}
+use Rattle.plate.specs.Refusals.{measure_refusal}
+use Rattle.plate.specs.declared.refusal.Refusal.{Refusal}
+use Rattle.plate.specs.declared.refusal.Refusal.TheVariants.{Tables, Group}
+use Rattle.queue.specs.declared.offer.Offer.{Offer}
+use Rattle.runs.specs.Measurers.{Measurer}
 use Rattle.runs.specs.Said.{Said}
-use Rattle.runs.specs.Said.Said.{done, measured}
-use Rattle.runs.specs.Steps.{MeasureStep, State, Steps, rooms_of, telling}
-use Rattle.runs.specs.Truths.{sent_back}
-use Rattle.runs.specs.declared.call.Call.TheVariants.{Measure, Seal, Break}
+use Rattle.runs.specs.Said.Said.{measured}
+use Rattle.runs.specs.Steps.{CarriesOut, MeasureStep, State, after_measuring, map_of, rooms_of}
+use Rattle.runs.specs.Truths.{CountsAre, map_room, measured_by}
+use Rattle.runs.specs.declared.call.Call.TheVariants.{Measure}
+use Rattle.runs.specs.declared.call.RulerCall.{RulerCall}
 use Rattle.runs.specs.declared.call.RulerCall.TheVariants.{Plain}
 use Rattle.runs.proofs.Counting.{counts_shown}
-use Rattle.runs.proofs.Trimmed.{trimmed, same_board}
-use Rattle.runs.proofs.Moments.{Held, Holds, stands}
-use Rattle.runs.proofs.Moves.{Onward, idle, refuse_none, right_truth, sent}
+use Rattle.runs.proofs.Trimmed.{same_board}
+use Rattle.runs.proofs.Moments.{Held, Lawfully, Next, Onward, Stands, board_fits, board_of, moment_of}
+use Rattle.runs.proofs.Moves.{refuse_none, sent}
 
-pub one_or_two : (group : ℕ) → no_group group ≡ false → (group ≡ 1) ⊎ (group ≡ 2)
-one_or_two group h = grind (arith, nat_tests)
+-- the length of the map that is lent
+pub map_lent : {R : Type 0} (s : State R) (group : ℕ) →
+    length (map_of s group) ≡ map_room (rooms_of s) group
+map_lent s group = some_length (group == 1)
+  where
+    some_length : (b : Bool) →
+        length (cond b s.first s.second) ≡ cond b (length s.first) (length s.second)
+    some_length true = refl
+    some_length false = refl
 
-pub some_length : {X : Type 0} (b : Bool) (first second : List X) → length (cond b first second) ≡ cond b (length first) (length second)
-some_length true first second = refl
-some_length false first second = refl
+or_false : (was : Bool) → (was || false) ≡ true → was ≡ true
+or_false true current = refl
+or_false false current = current
 
-or_false : (a : Bool) → (a || false) ≡ a
-or_false true = refl
-or_false false = refl
+module _ {L R : Type 0} (by : Measurer L R) (laws : Lawfully by) (s : State R) (stands : Stands by s)
+    (group : ℕ) where
+  -- the board that is measured, and what is measured of it
+  abbrev whole : Board
+  whole = on s.plate.size s.cells s.groups
 
-or_true : (a : Bool) → (a || true) ≡ true
-or_true true = refl
-or_true false = refl
+  abbrev now : Measuring L R
+  now = measured_by by whole group
 
--- the map that is not written stays, and so does the other where nothing is written
-kept_first : {X : Type 0} (b : Bool) (first second first' second' : X) → cond b first' second' ≡ cond b first second → cond b first' first ≡ first
-kept_first true first second first' second' h = h
-kept_first false first second first' second' h = refl
+  same : SameBoard group (board_of s) whole
+  same = same_board s.plate.size s.cells s.groups group
 
-kept_second : {X : Type 0} (b : Bool) (first second first' second' : X) → cond b first' second' ≡ cond b first second → cond b second second' ≡ second
-kept_second true first second first' second' h = refl
-kept_second false first second first' second' h = h
+  counts_true : CountsAre (measured_by by (board_of s) group) (measured (counts_of now))
+  counts_true =
+      subst (λ counts. CountsAre (measured_by by (board_of s) group) (measured counts))
+      (sym (same_counts (measured_by by (board_of s) group) whole same laws.kind))
+      (counts_shown (measured_by by (board_of s) group) laws.kind laws.gauge (board_fits by s stands))
 
-map_length : {L R : Type 0} (rows : Rows L R) (m : Measuring L) → length (measured_map rows m) ≡ area m.board.size
-unfolding measured_map
-map_length rows m = length-map-range_with_len (record_at m.kind rows (ranking m)) 0 (area m.board.size)
+  filled_held : (which : ℕ) (map : List (MapRecord R)) → group ≡ which →
+      Held (measured_by by (board_of s) which) (filled now map)
+  filled_held which map is =
+      let one = one_map laws.kind by.gauge laws.gauge (board_of s) (board_fits by s stands) group in
+      subst (λ which. Held (measured_by by (board_of s) which) (filled now map)) is
+      (take_at (measured_map now) (drop (area s.plate.size) map) (area s.plate.size) (map_length now)
+      ∙ one.2 whole same)
 
-module _ {L R : Type 0} (kind : Kind L) (rows : Rows L R) (laws : KindLaws kind rows) (g : Crossing L) (lawful : Lawful kind g) (size : Size) (cells : List Cell) (groups : List ℕ) (fits : Fitting (trimmed size cells groups)) (group : ℕ) where
-  same_measured : measured_map rows (measuring kind g (on size cells groups) group) ≡ measured_map rows (measuring kind g (trimmed size cells groups) group)
-  same_measured = (one_map laws g lawful (trimmed size cells groups) fits group).2 (on size cells groups) (same_board size cells groups group)
+  filled_length : (map : List (MapRecord R)) → area s.plate.size ≤ length map →
+      length (filled now map) ≡ length map
+  filled_length map long =
+      omega (
+        arith,
+        length-append (measured_map now) (drop (area s.plate.size) map),
+        map_length now,
+        length-drop (area s.plate.size) map,
+      )
 
-  counted_same : counts_of (measuring kind g (on size cells groups) group) ≡ counts_of (measuring kind g (trimmed size cells groups) group)
-  counted_same = same_counts (measuring kind g (trimmed size cells groups) group) (on size cells groups) (same_board size cells groups group) laws
+  -- the first map and the second, by whether it is the first that is measured
+  first_held : (one : Bool) → (one ≡ true → group ≡ 1) → (s.plate.first || one) ≡ true →
+      Held (measured_by by (board_of s) 1) (cond one (filled now s.first) s.first)
+  first_held true is current = filled_held 1 s.first (is refl)
+  first_held false is current = stands.first_held (or_false s.plate.first current)
 
-  -- the map after measuring is held, and as long as before
-  filled_held : (map map' : List (MapRecord R)) → map' ≡ filled rows (measuring kind g (on size cells groups) group) map → Held kind rows g size (trimmed size cells groups) group map'
-  filled_held map map' is =
-      let m = measuring kind g (on size cells groups) group in
-      let long = map_length rows m in
+  second_held : (one : Bool) → (one ≡ false → group ≡ 2) → (s.plate.second || not one) ≡ true →
+      Held (measured_by by (board_of s) 2) (cond one s.second (filled now s.second))
+  second_held true is current = stands.second_held (or_false s.plate.second current)
+  second_held false is current = filled_held 2 s.second (is refl)
+
+  first_length : (one : Bool) → area s.plate.size ≤ length (cond one s.first s.second) →
+      length (cond one (filled now s.first) s.first) ≡ length s.first
+  first_length true long = filled_length s.first long
+  first_length false long = refl
+
+  second_length : (one : Bool) → area s.plate.size ≤ length (cond one s.first s.second) →
+      length (cond one s.second (filled now s.second)) ≡ length s.second
+  second_length true long = refl
+  second_length false long = filled_length s.second long
+
+  abbrev call : RulerCall
+  call = Plain (Measure group)
+
+  -- measuring that is not sent back
+  measured_now : (queue : List (Offer R)) → length queue ≡ length s.queue →
+      no_group group ≡ false → area s.plate.size ≤ length (map_of s group) →
+      Next by true None call (measured (counts_of now)) s (after_measuring now queue s)
+  measured_now queue as_long some long =
+      let other : not (group == 1) ≡ (group == 2) = grind (arith, nat_tests) in
       record {
-        long = omega (arith, ap length is, length-append (measured_map rows m) (drop (area size) map), long);
-        is = ap (take (area size)) is
-            ∙ ap (λ n. take n (measured_map rows m ++ drop (area size) map)) (sym long)
-            ∙ take-append_seam (measured_map rows m) (drop (area size) map)
-            ∙ same_measured;
+        truth = counts_true;
+        moment = λ k. record (moment_of s) {
+          plate = record (renewed group s.plate) { second = s.plate.second || other k };
+        };
+        stands = record {
+          low = stands.low;
+          first_held = first_held (group == 1) (eqb-true group 1);
+          second_held = second_held (group == 1) (λ isnt. eqb-true group 2 (sym other ∙ ap not isnt));
+        };
+        same_rooms = λ k. record (rooms_of s) {
+          first = first_length (group == 1) long k;
+          second = second_length (group == 1) long k;
+          queue = as_long k;
+        };
       }
 
-  filled_length : (map map' : List (MapRecord R)) → area size ≤ length map → map' ≡ filled rows (measuring kind g (on size cells groups) group) map → length map' ≡ length map
-  filled_length map map' enough is =
-      let m = measuring kind g (on size cells groups) group in
-      omega (arith, ap length is, length-append (measured_map rows m) (drop (area size) map), map_length rows m, length-drop (area size) map)
+  module _ (answer : Said L) (s' : State R) where
+    measured_or_sent : (back : Option Refusal) →
+        (back ≡ None → (no_group group ≡ false) × (area s.plate.size ≤ length (map_of s group))) →
+        MeasureStep by s answer s' now back → Next by true back call answer s s'
+    measured_or_sent (Some e) goes step = sent by s stands call answer s' e step.told step.state
+    measured_or_sent None goes step =
+        subst₂ (λ answer. Next by true None call answer s) (sym step.told) (sym step.state)
+        (measured_now step.queue step.long (goes refl).0 (goes refl).1)
 
-module _ {L R : Type 0} (kind : Kind L) (rows : Rows L R) (laws : KindLaws kind rows) (g : Crossing L) (lawful : Lawful kind g) (sums : Option (L → L → L)) (size : Size) (entries : ℕ) (now : ℕ → Bool) (cells : List Cell) (groups : List ℕ) (first second : List (MapRecord R)) where
-  module _ (holds : Holds kind rows g size now cells groups first second) (answer : Said L) (s' : State R) where
-    -- measuring that is accepted
-    measured_first : sent_back (rooms_of entries (stands size now false cells groups first second)) size now (Plain (Measure 1)) ≡ None → area size ≤ length first → MeasureStep entries (stands size now false cells groups first second) answer s' rows (measuring kind g (on size cells groups) 1) None → Onward kind rows g size entries now false cells groups first second (Plain (Measure 1)) answer s'
-    measured_first back enough step =
-        let told = step.told ∙ ap (telling measured) step.exact.answer ∙ ap measured (counted_same kind rows laws g lawful size cells groups holds.fits 1) in
-        let state : s' ≡ record (stands size now false cells groups first second) { header = record { size = size; first = now 1 || true; second = now 2 || false }; first = s'.first } =
-        step.rest ∙ λ k. record (stands size now false cells groups first second) { header = (step.measures.header k).header; first = s'.first } in
-        subst (λ answer. Onward kind rows g size entries now false cells groups first second (Plain (Measure 1)) answer s') (sym told)
-        (record {
-          truth = right_truth _ _ _ _ refl back (counts_shown rows (measuring kind g (trimmed size cells groups) 1) laws lawful holds.fits);
-          after = record {
-            cells = cells;
-            groups = groups;
-            first = s'.first;
-            second = second;
-            state = state;
-            board = refl;
-            holds = record {
-              enough_cells = holds.enough_cells;
-              enough_groups = holds.enough_groups;
-              fits = holds.fits;
-              first_held = λ e. filled_held kind rows laws g lawful size cells groups holds.fits 1 first s'.first step.exact.table;
-              second_held = λ e. holds.second_held (sym (or_false (now 2)) ∙ e);
-            };
-          };
-          same_rooms = ap (rooms_of entries) state
-              ∙ (λ k. record { cells = length cells; groups = length groups; first = filled_length kind rows laws g lawful size cells groups holds.fits 1 first s'.first enough step.exact.table k; second = length second; entries = entries });
-        })
-
-    measured_second : sent_back (rooms_of entries (stands size now false cells groups first second)) size now (Plain (Measure 2)) ≡ None → area size ≤ length second → MeasureStep entries (stands size now false cells groups first second) answer s' rows (measuring kind g (on size cells groups) 2) None → Onward kind rows g size entries now false cells groups first second (Plain (Measure 2)) answer s'
-    measured_second back enough step =
-        let told = step.told ∙ ap (telling measured) step.exact.answer ∙ ap measured (counted_same kind rows laws g lawful size cells groups holds.fits 2) in
-        let state : s' ≡ record (stands size now false cells groups first second) { header = record { size = size; first = now 1 || false; second = now 2 || true }; second = s'.second } =
-        step.rest ∙ λ k. record (stands size now false cells groups first second) { header = (step.measures.header k).header; second = s'.second } in
-        subst (λ answer. Onward kind rows g size entries now false cells groups first second (Plain (Measure 2)) answer s') (sym told)
-        (record {
-          truth = right_truth _ _ _ _ refl back (counts_shown rows (measuring kind g (trimmed size cells groups) 2) laws lawful holds.fits);
-          after = record {
-            cells = cells;
-            groups = groups;
-            first = first;
-            second = s'.second;
-            state = state;
-            board = refl;
-            holds = record {
-              enough_cells = holds.enough_cells;
-              enough_groups = holds.enough_groups;
-              fits = holds.fits;
-              first_held = λ e. holds.first_held (sym (or_false (now 1)) ∙ e);
-              second_held = λ e. filled_held kind rows laws g lawful size cells groups holds.fits 2 second s'.second step.exact.table;
-            };
-          };
-          same_rooms = ap (rooms_of entries) state
-              ∙ (λ k. record { cells = length cells; groups = length groups; first = length first; second = filled_length kind rows laws g lawful size cells groups holds.fits 2 second s'.second enough step.exact.table k; entries = entries });
-        })
-
-    measure_judged : (group : ℕ) (refusal : Option Refusal) → sent_back (rooms_of entries (stands size now false cells groups first second)) size now (Plain (Measure group)) ≡ refusal → (refusal ≡ None → no_group group ≡ false) → (refusal ≡ None → area size ≤ length (cond (group == 1) first second)) → MeasureStep entries (stands size now false cells groups first second) answer s' rows (measuring kind g (on size cells groups) group) refusal → Onward kind rows g size entries now false cells groups first second (Plain (Measure group)) answer s'
-    measure_judged group (Some e) back some enough step =
-        sent kind rows g size entries now false cells groups first second holds (Plain (Measure group)) e answer s'
-        (step.told ∙ ap (telling measured) step.exact.answer)
-        (step.rest ∙ λ k. record (stands size now false cells groups first second) {
-          header = (step.measures.header k).header;
-          first = kept_first (group == 1) first second s'.first s'.second step.exact.table k;
-          second = kept_second (group == 1) first second s'.first s'.second step.exact.table k;
-        })
-        refl back
-    measure_judged group None back some enough step =
-        let P : ℕ → Type 0 = λ group. sent_back (rooms_of entries (stands size now false cells groups first second)) size now (Plain (Measure group)) ≡ None → area size ≤ length (cond (group == 1) first second) → MeasureStep entries (stands size now false cells groups first second) answer s' rows (measuring kind g (on size cells groups) group) None → Onward kind rows g size entries now false cells groups first second (Plain (Measure group)) answer s' in
-        ⊎_elim
-        (λ one. subst P (sym one) measured_first back (enough refl) step)
-        (λ two. subst P (sym two) measured_second back (enough refl) step)
-        (one_or_two group (some refl))
-
-  short : (n len a b c : ℕ) → ((ltb a n || ltb b 64) || (ltb len n || ltb entries (9 * n))) ≡ false → n ≤ len
-  short n len a b c h = grind (arith, nat_tests)
-
-  pub measure_step : (is_sealed : Bool) → Holds kind rows g size now cells groups first second → (group : ℕ) (answer : Said L) (s' : State R) → Steps entries (stands size now is_sealed cells groups first second) answer s' kind rows g sums (Plain (Measure group)) → Onward kind rows g size entries now is_sealed cells groups first second (Plain (Measure group)) answer s'
-  measure_step true holds group answer s' step = idle kind rows g size entries now true cells groups first second holds _ answer s' step.0 step.1 refl
-  measure_step false holds group answer s' step =
-      measure_judged holds answer s' group _
-      (ap (λ room. refuse ((ltb (length cells) (area size) || ltb (length groups) 64) || (ltb room (area size) || ltb entries (9 * area size))) Tables (refuse (no_group group) Group None)) (sym (some_length (group == 1) first second)))
-      (λ none. (refuse_none _ Group _ (refuse_none _ Tables _ none).1).0)
-      (λ none. short (area size) (length (cond (group == 1) first second)) (length cells) (length groups) 0 (refuse_none _ Tables _ none).0)
-      step
-
-  seal_judged : Holds kind rows g size now cells groups first second → (answer : Said L) (s' : State R) (refusal : Option Refusal) → sent_back (rooms_of entries (stands size now false cells groups first second)) size now (Plain Seal) ≡ refusal → answer ≡ telling (λ x. done) (answered refusal) → s' ≡ after refusal (stands size now false cells groups first second) (stands size now true cells groups first second) → Onward kind rows g size entries now false cells groups first second (Plain Seal) answer s'
-  seal_judged holds answer s' (Some e) back told is = sent kind rows g size entries now false cells groups first second holds (Plain Seal) e answer s' told is refl back
-  seal_judged holds answer s' None back told is =
-      subst (λ answer. Onward kind rows g size entries now false cells groups first second (Plain Seal) answer s') (sym told)
-      (record {
-        truth = right_truth _ _ _ _ refl back refl;
-        after = record { cells = cells; groups = groups; first = first; second = second; state = is; board = refl; holds = holds };
-        same_rooms = ap (rooms_of entries) is;
-      })
-
-  pub seal_step : (is_sealed : Bool) → Holds kind rows g size now cells groups first second → (answer : Said L) (s' : State R) → Steps entries (stands size now is_sealed cells groups first second) answer s' kind rows g sums (Plain Seal) → Onward kind rows g size entries now is_sealed cells groups first second (Plain Seal) answer s'
-  seal_step true holds answer s' step = idle kind rows g size entries now true cells groups first second holds _ answer s' step.0 step.1 refl
-  seal_step false holds answer s' step = seal_judged holds answer s' (seal_refusal (stands size now false cells groups first second).header) refl step.0 step.1
-
-  pub break_step : (is_sealed : Bool) → Holds kind rows g size now cells groups first second → (answer : Said L) (s' : State R) → Steps entries (stands size now is_sealed cells groups first second) answer s' kind rows g sums (Plain Break) → Onward kind rows g size entries now is_sealed cells groups first second (Plain Break) answer s'
-  break_step false holds answer s' step = idle kind rows g size entries now false cells groups first second holds _ answer s' step.0 step.1 refl
-  break_step true holds answer s' step =
-      subst (λ answer. Onward kind rows g size entries now true cells groups first second (Plain Break) answer s') (sym step.0)
-      (record {
-        truth = refl;
-        after = record { cells = cells; groups = groups; first = first; second = second; state = step.1; board = refl; holds = holds };
-        same_rooms = ap (rooms_of entries) step.1;
-      })
+    pub measure_step : CarriesOut by s answer s' call → Onward by s answer s' call
+    measure_step step =
+        let n = length s.cells in
+        let k = length s.groups in
+        let back : ℕ → Option Refusal =
+        λ map. measure_refusal s.plate.size n k map (length s.queue) group in
+        subst (λ map. Next by true (back map) call answer s s') (map_lent s group)
+        (measured_or_sent _
+        (λ none.
+        let tables = refuse_none _ Tables _ none in (
+          (refuse_none _ Group _ tables.1).0,
+          ltb-false _ _ (or_parts _ _ (or_parts _ _ tables.0).1).0,
+        ))
+        step)

@@ -1,161 +1,177 @@
 -- One step: readings. Assumes nothing.
-use Rattle.std.proofs.Common.{◌≡◌, ℕ, ◌<◌, Bool, true, false, cond, not, ◌||◌, ◌==◌, ltb, List, [], ◌++◌, length, take, drop, Some, None, Ok, Option, sym, refl, ap, ◌∙◌, subst, ⊎_elim}
-use Rattle.std.proofs.lemmas.Bool.{false≢true}
-use Rattle.std.proofs.Math.Seq.{take-append_seam}
+use Rattle.std.proofs.Common.{◌≡◌, ℕ, ◌<◌, ◌⊎◌, Bool, true, false, cond, List, length, None, Some, Option, Result, sym, refl, subst, ⊎_elim, arith}
+use Rattle.std.proofs.lemmas.Bool.{not-false, or_parts}
+use Rattle.std.proofs.lemmas.Bool.Decides.{nat_tests}
 use Rattle.board.specs.Groups.{no_group}
-use Rattle.board.specs.Refusals.{after, answering, refuse}
-use Rattle.board.specs.Sizes.{area, cell_at, off}
-use Rattle.board.specs.declared.cell.Cell.{Cell}
+use Rattle.board.specs.Outcomes.{answering}
+use Rattle.board.specs.Sizes.{area, cell_at}
 use Rattle.board.specs.declared.record.MapRecord.{MapRecord}
-use Rattle.board.specs.declared.refusal.Refusal.{Refusal}
-use Rattle.board.specs.declared.refusal.Refusal.TheVariants.{Tables, Off, Group, Outdated}
-use Rattle.board.specs.declared.size.Size.{Size}
-use Rattle.lengths.specs.Kinds.{Kind, Rows, KindLaws}
-use Rattle.gauges.specs.Meanings.{ByAdding, Crossing, Lawful, Ruling, RulerLaws}
-use Rattle.measuring.specs.Paths.{measuring}
-use Rattle.measuring.specs.Readings.{distance_at, least_sum, marked, nearest_at, route_marks, way_from}
-use Rattle.measuring.specs.Ways.{at}
-use Rattle.plate.specs.Readings.{compare_refusal, fitting_way, reading_refusal, route_refusal, unless_refused}
+use Rattle.gauges.specs.Meanings.{ByAdding, Ruling, RulerLaws}
+use Rattle.measuring.specs.MapReadings.{distance_at, least_sum, marked, nearest_at, route_marks}
+use Rattle.measuring.specs.Paths.{Measuring}
+use Rattle.plate.specs.Readings.{unless_refused}
+use Rattle.plate.specs.Refusals.{current, reading_refusal, seal_refusal}
+use Rattle.plate.specs.declared.refusal.Refusal.{Refusal}
+use Rattle.plate.specs.declared.refusal.Refusal.TheVariants.{Tables, Off, Group, Outdated}
+use Rattle.runs.specs.Measurers.{Measurer}
 use Rattle.runs.specs.Said.{Said, accepted}
 use Rattle.runs.specs.Said.Said.{distance, nearest, way, gap, route}
-use Rattle.runs.specs.Steps.{RouteStep, State, Steps, WayStep, rooms_of, telling}
-use Rattle.runs.specs.Truths.{Answers, allowed, reading_back, sent_back}
+use Rattle.runs.specs.Steps.{CarriesOut, GapStep, Reads, RouteStep, State, map_of, rooms_of, telling}
+use Rattle.runs.specs.Truths.{Answers, map_room, measured_by}
 use Rattle.runs.specs.declared.call.Call.TheVariants.{Distance, Nearest, Way}
 use Rattle.runs.specs.declared.call.RulerCall.{RulerCall}
 use Rattle.runs.specs.declared.call.RulerCall.TheVariants.{Plain, Gap, Route}
-use Rattle.runs.proofs.Trimmed.{trimmed}
-use Rattle.runs.proofs.Moments.{Held, Holds, board_after, now_after, sealed_after, stands}
-use Rattle.runs.proofs.Moves.{Onward, off_within, refuse_none, right_truth, sent, stays}
-use Rattle.runs.proofs.Measures.{one_or_two, some_length}
-use Rattle.runs.proofs.Looks.{distance_held, gap_held, marks_length, nearest_held, route_held, way_held}
+use Rattle.runs.proofs.Looks.{distance_held, gap_held, nearest_held, route_held, way_held}
+use Rattle.runs.proofs.Moments.{Held, Lawfully, Next, OfRuler, Onward, Stands, board_fits, board_of, moment_after, moment_of}
+use Rattle.runs.proofs.Moves.{off_within, refuse_none, sent, stays}
+use Rattle.runs.proofs.Measures.{map_lent}
 
--- the group's flag
-flag_is : (now : ℕ → Bool) (group : ℕ) → no_group group ≡ false → cond (group == 1) (now 1) (now 2) ≡ now group
-flag_is now group some =
-    let P : ℕ → Type 0 = λ group. cond (group == 1) (now 1) (now 2) ≡ now group in
-    ⊎_elim (λ one. subst P (sym one) refl) (λ two. subst P (sym two) refl) (one_or_two group some)
+one_or_two : (group : ℕ) → no_group group ≡ false → (group ≡ 1) ⊎ (group ≡ 2)
+one_or_two group some = grind (arith, nat_tests)
 
-grouped : (none b c : Bool) → (none ≡ false → b ≡ c) → refuse none Group (refuse (not b) Outdated None) ≡ refuse none Group (refuse (not c) Outdated None)
-grouped true b c same = refl
-grouped false b c same = ap (λ b. refuse (not b) Outdated None) (same refl)
+either : {X : Type 0} (b : Bool) (x : X) → cond b x x ≡ x
+either true x = refl
+either false x = refl
 
-is_current : (b : Bool) (rest : Option Refusal) → refuse (not b) Outdated rest ≡ None → b ≡ true
-is_current true rest h = refl
-is_current false rest h = absurd (false≢true (sym (refuse_none true Outdated rest h).0))
+module _ {L R : Type 0} (by : Measurer L R) (laws : Lawfully by) (s : State R) (stands : Stands by s)
+    (answer : Said L) (s' : State R) where
+  -- a reading that is sent back, or answered so and changes nothing
+  read : {X : Type 0} (call : RulerCall) (tell : X → Said L) (x : X) (back : Option Refusal) →
+      moment_after call (tell x) (moment_of s) ≡ moment_of s →
+      (back ≡ None → Answers by (board_of s) call (tell x)) →
+      Reads by s answer s' tell (answering back x) → Next by true back call answer s s'
+  read call tell x (Some e) same right step = sent by s stands call answer s' e step.told step.state
+  read call tell x None same right step =
+      subst (λ answer. Next by true None call answer s s') (sym step.told)
+      (stays by s stands call (tell x) s' true None step.state same (right refl))
 
-module _ {L R : Type 0} (kind : Kind L) (rows : Rows L R) (laws : KindLaws kind rows) (g : Crossing L) (lawful : Lawful kind g) (sums : Option (L → L → L)) (size : Size) (entries : ℕ) (now : ℕ → Bool) (is_sealed : Bool) (cells : List Cell) (groups : List ℕ) (first second : List (MapRecord R)) (holds : Holds kind rows g size now cells groups first second) where
-  -- a call that changes nothing
-  looked : {X : Type 0} (call : RulerCall) (tell : X → Said L) (x : X) (answer : Said L) (s' : State R) (refusal : Option Refusal) → allowed is_sealed call ≡ true → sent_back (rooms_of entries (stands size now is_sealed cells groups first second)) size now call ≡ refusal → answer ≡ telling tell (answering refusal x) → s' ≡ stands size now is_sealed cells groups first second → now_after call (tell x) now ≡ now → sealed_after call (tell x) is_sealed ≡ is_sealed → board_after call (tell x) (trimmed size cells groups) ≡ trimmed size cells groups → (refusal ≡ None → Answers kind g (trimmed size cells groups) call (tell x)) → Onward kind rows g size entries now is_sealed cells groups first second call answer s'
-  looked call tell x answer s' (Some e) may back told is same_now same_seal same_board right =
-      sent kind rows g size entries now is_sealed cells groups first second holds call e answer s' told is may back
-  looked call tell x answer s' None may back told is same_now same_seal same_board right =
-      subst (λ answer. Onward kind rows g size entries now is_sealed cells groups first second call answer s') (sym told)
-      (stays kind rows g size entries now is_sealed cells groups first second holds call (tell x) s' is same_now same_seal same_board
-      (right_truth _ _ _ _ may back (right refl)))
-
-  map_is : ℕ → List (MapRecord R)
-  map_is group = cond (group == 1) first second
+  abbrev HeldWhenCurrent : ℕ → Type 0
+  HeldWhenCurrent group =
+      current s.plate group ≡ true → Held (measured_by by (board_of s) group) (map_of s group)
 
   module _ (row column group : ℕ) where
-    -- the refusal is the same by the header as by the calls so far
-    reading_same : reading_back (rooms_of entries (stands size now is_sealed cells groups first second)) size now row column group ≡ reading_refusal (stands size now is_sealed cells groups first second).header (length (cond (group == 1) first second)) row column group
-    reading_same =
-        (λ k. refuse (ltb (sym (some_length (group == 1) first second) k) (area size)) Tables (refuse (off size row column) Off (refuse (no_group group) Group (refuse (not (now group)) Outdated None))))
-        ∙ ap (λ rest. refuse (ltb (length (cond (group == 1) first second)) (area size)) Tables (refuse (off size row column) Off rest))
-        (grouped (no_group group) (now group) (cond (group == 1) (now 1) (now 2)) (λ some. sym (flag_is now group some)))
+    abbrev j : ℕ
+    j = cell_at s.plate.size row column
 
-    module _ (none : reading_refusal (stands size now is_sealed cells groups first second).header (length (cond (group == 1) first second)) row column group ≡ None) where
-      on_plate : cell_at size row column < area size
-      on_plate = off_within size row column (refuse_none _ Off _ (refuse_none _ Tables _ none).1).0
+    abbrev map : List (MapRecord R)
+    map = map_of s group
 
-      map_held : Held kind rows g size (trimmed size cells groups) group (cond (group == 1) first second)
+    abbrev m : Measuring L R
+    m = measured_by by (board_of s) group
+
+    abbrev back : ℕ → Option Refusal
+    back room = reading_refusal s.plate room row column group
+
+    -- where a reading is not sent back, its cell is on the plate and its map holds what was
+    -- measured
+    module _ (none : back (length map) ≡ None) where
+      on_plate : j < area s.plate.size
+      on_plate =
+          off_within s.plate.size row column (refuse_none _ Off _ (refuse_none _ Tables _ none).1).0
+
+      map_held : Held m map
       map_held =
-          let rest = (refuse_none _ Off _ (refuse_none _ Tables _ none).1).1 in
-          let some = (refuse_none _ Group _ rest).0 in
-          let current = sym (flag_is now group some) ∙ is_current _ None (refuse_none _ Group _ rest).1 in
-          let P : ℕ → Type 0 = λ group. now group ≡ true → Held kind rows g size (trimmed size cells groups) group (cond (group == 1) first second) in
+          let on = refuse_none _ Off _ (refuse_none _ Tables _ none).1 in
+          let some = refuse_none _ Group _ on.1 in
+          let is_current = not-false _ (refuse_none _ Outdated _ some.1).0 in
           ⊎_elim
-          (λ one. subst P (sym one) holds.first_held current)
-          (λ two. subst P (sym two) holds.second_held current)
-          (one_or_two group some)
+          (λ one. subst HeldWhenCurrent (sym one) stands.first_held is_current)
+          (λ two. subst HeldWhenCurrent (sym two) stands.second_held is_current)
+          (one_or_two group some.0)
 
-    pub distance_step : (answer : Said L) (s' : State R) → Steps entries (stands size now is_sealed cells groups first second) answer s' kind rows g sums (Plain (Distance row column group)) → Onward kind rows g size entries now is_sealed cells groups first second (Plain (Distance row column group)) answer s'
-    distance_step answer s' step =
-        looked (Plain (Distance row column group)) distance (distance_at kind rows (cond (group == 1) first second) (cell_at size row column)) answer s' _ refl reading_same step.0 step.1 refl refl refl
-        (λ none. distance_held rows (measuring kind g (trimmed size cells groups) group) (cond (group == 1) first second) (map_held none).is laws lawful holds.fits (cell_at size row column) (on_plate none))
+    -- a reading of the cell's record
+    read_at : {X : Type 0} (call : RulerCall) (tell : X → Said L) (x : X) →
+        moment_after call (tell x) (moment_of s) ≡ moment_of s →
+        (Held m map → j < area s.plate.size → Answers by (board_of s) call (tell x)) →
+        Reads by s answer s' tell (answering (back (length map)) x) →
+        Next by true (back (map_room (rooms_of s) group)) call answer s s'
+    read_at call tell x same right step =
+        subst (λ room. Next by true (back room) call answer s s') (map_lent s group)
+        (read call tell x _ same (λ none. right (map_held none) (on_plate none)) step)
 
-    pub nearest_step : (answer : Said L) (s' : State R) → Steps entries (stands size now is_sealed cells groups first second) answer s' kind rows g sums (Plain (Nearest row column group)) → Onward kind rows g size entries now is_sealed cells groups first second (Plain (Nearest row column group)) answer s'
-    nearest_step answer s' step =
-        looked (Plain (Nearest row column group)) nearest (nearest_at kind rows (cond (group == 1) first second) (cell_at size row column)) answer s' _ refl reading_same step.0 step.1 refl refl refl
-        (λ none. nearest_held rows (measuring kind g (trimmed size cells groups) group) (cond (group == 1) first second) (map_held none).is laws lawful holds.fits (cell_at size row column) (on_plate none))
+    pub distance_step : CarriesOut by s answer s' (Plain (Distance row column group)) →
+        Onward by s answer s' (Plain (Distance row column group))
+    distance_step =
+        read_at (Plain (Distance row column group)) distance (distance_at by.kind map j) refl
+        (λ held lt. distance_held m map held laws.kind laws.gauge (board_fits by s stands) j lt)
 
-    way_judged : (room : ℕ) (answer : Said L) (s' : State R) (refusal : Option Refusal) → reading_refusal (stands size now is_sealed cells groups first second).header (length (cond (group == 1) first second)) row column group ≡ refusal → WayStep entries (stands size now is_sealed cells groups first second) answer s' room (unless_refused refusal (cond (at (rows.encode kind.zero) (cond (group == 1) first second) (cell_at size row column)).reached (fitting_way room (way_from kind rows (area size) (cond (group == 1) first second) (cell_at size row column))) (Ok []))) → Onward kind rows g size entries now is_sealed cells groups first second (Plain (Way row column group room)) answer s'
-    way_judged room answer s' (Some e) back step =
-        sent kind rows g size entries now is_sealed cells groups first second holds (Plain (Way row column group room)) e answer s'
-        (step.told ∙ ap (telling (λ count. way (take count step.list_after))) step.walks.answer)
-        step.rest refl (reading_same ∙ back)
-    way_judged room answer s' None back step =
-        stays kind rows g size entries now is_sealed cells groups first second holds (Plain (Way row column group room)) answer s' step.rest
-        (λ k group. either_way (accepted answer) (now group) k)
-        (either_way (accepted answer) is_sealed)
-        (either_way (accepted answer) (trimmed size cells groups))
-        (right_truth _ _ answer _ refl (reading_same ∙ back)
-        (way_held rows (measuring kind g (trimmed size cells groups) group) (cond (group == 1) first second) (map_held back).is laws lawful holds.fits (cell_at size row column) (on_plate back)
-        room step.list step.list_after step.result answer step.walks step.told))
-      where
-        either_way : {X : Type 0} (b : Bool) (x : X) → cond b x x ≡ x
-        either_way true x = refl
-        either_way false x = refl
+    pub nearest_step : CarriesOut by s answer s' (Plain (Nearest row column group)) →
+        Onward by s answer s' (Plain (Nearest row column group))
+    nearest_step =
+        read_at (Plain (Nearest row column group)) nearest (nearest_at by.kind map j) refl
+        (λ held lt. nearest_held m map held laws.kind laws.gauge (board_fits by s stands) j lt)
 
-    pub way_step : (room : ℕ) (answer : Said L) (s' : State R) → Steps entries (stands size now is_sealed cells groups first second) answer s' kind rows g sums (Plain (Way row column group room)) → Onward kind rows g size entries now is_sealed cells groups first second (Plain (Way row column group room)) answer s'
-    way_step room answer s' step = way_judged room answer s' (reading_refusal (stands size now is_sealed cells groups first second).header (length (cond (group == 1) first second)) row column group) refl step
+    module _ (cells : ℕ) where
+      abbrev call : RulerCall
+      call = Plain (Way row column group cells)
 
-  -- both maps are held where neither is outdated
-  module _ (none : compare_refusal (stands size now is_sealed cells groups first second).header (length first) (length second) ≡ None) where
-    first_of_both : Held kind rows g size (trimmed size cells groups) 1 first
-    first_of_both = holds.first_held (both (now 1) (now 2) (refuse_none _ Outdated _ (refuse_none _ Tables _ none).1).0)
-      where
-        both : (a b : Bool) → (not a || not b) ≡ false → a ≡ true
-        both true b h = refl
-        both false b h = absurd (false≢true (sym h))
+      -- a way changes nothing, whether its list holds it or not
+      quiet : moment_after call answer (moment_of s) ≡ moment_of s
+      quiet = λ k. record {
+        plate = record {
+          size = s.plate.size;
+          first = either (accepted answer) s.plate.first k;
+          second = either (accepted answer) s.plate.second k;
+        };
+        is_sealed = either (accepted answer) s.is_sealed k;
+        board = either (accepted answer) (board_of s) k;
+      }
 
-    second_of_both : Held kind rows g size (trimmed size cells groups) 2 second
-    second_of_both = holds.second_held (both (now 1) (now 2) (refuse_none _ Outdated _ (refuse_none _ Tables _ none).1).0)
-      where
-        both : (a b : Bool) → (not a || not b) ≡ false → b ≡ true
-        both true true h = refl
-        both true false h = absurd (false≢true (sym h))
-        both false b h = absurd (false≢true (sym h))
+      way_judged : (refusal : Option Refusal) (found : Result (List ℕ) Refusal) →
+          (refusal ≡ None → answer ≡ telling way found → Answers by (board_of s) call answer) →
+          Reads by s answer s' way (unless_refused refusal found) →
+          Next by true refusal call answer s s'
+      way_judged (Some e) found right step = sent by s stands call answer s' e step.told step.state
+      way_judged None found right step =
+          stays by s stands call answer s' true None step.state quiet (right refl step.told)
 
-  module _ (ruler : Ruling L) (ruled : RulerLaws kind ruler) (adds : ByAdding ruler g) where
-    pub gap_step : (answer : Said L) (s' : State R) → Steps entries (stands size now is_sealed cells groups first second) answer s' kind rows g (Some ruler.sum) Gap → Onward kind rows g size entries now is_sealed cells groups first second Gap answer s'
-    gap_step answer s' step =
-        looked Gap gap (least_sum kind rows ruler.sum first second (area size)) answer s' _ refl refl step.0 step.1 refl refl refl
-        (λ none. gap_held kind rows ruler g (trimmed size cells groups) first second (first_of_both none).is (second_of_both none).is laws ruled adds holds.fits)
+      pub way_step : CarriesOut by s answer s' call → Onward by s answer s' call
+      way_step step =
+          subst (λ room. Next by true (back room) call answer s s') (map_lent s group)
+          (way_judged _ _
+          (λ none.
+          way_held m map (map_held none) laws.kind laws.gauge (board_fits by s stands)
+          j (on_plate none) cells answer)
+          step)
 
-    route_judged : (room : ℕ) (answer : Said L) (s' : State R) (step : RouteStep entries (stands size now is_sealed cells groups first second) answer s' kind rows ruler.sum room) (refusal : Option Refusal) → route_refusal (stands size now is_sealed cells groups first second).header (length first) (length second) room ≡ refusal → Onward kind rows g size entries now is_sealed cells groups first second (Route room) answer s'
-    route_judged room answer s' step (Some e) back =
-        let refused_so = ap (route_refusal (stands size now is_sealed cells groups first second).header (length first) (length second)) step.long ∙ back in
-        sent kind rows g size entries now is_sealed cells groups first second holds (Route room) e answer s'
-        (step.told ∙ ap (telling (route (take (area size) step.marks_after))) (step.routes.answer ∙ ap (λ r. answering r (marked kind rows ruler.sum first second (area size))) refused_so))
-        step.rest refl back
-    route_judged room answer s' step None back =
-        let refused_so = ap (route_refusal (stands size now is_sealed cells groups first second).header (length first) (length second)) step.long ∙ back in
-        let marks = route_marks kind rows ruler.sum first second (area size) in
-        let behind = drop (area size) step.marks in
-        let table : step.marks_after ≡ marks ++ behind = step.routes.table ∙ ap (λ r. after r step.marks (marks ++ behind)) refused_so in
-        let front : take (area size) step.marks_after ≡ marks =
-        ap (take (area size)) table
-        ∙ ap (λ n. take n (marks ++ behind)) (sym (marks_length kind rows ruler.sum first second (area size)))
-        ∙ take-append_seam marks behind in
-        let told =
-        step.told ∙ ap (telling (route (take (area size) step.marks_after))) (step.routes.answer ∙ ap (λ r. answering r (marked kind rows ruler.sum first second (area size))) refused_so)
-        ∙ ap (λ marks. route marks (marked kind rows ruler.sum first second (area size))) front in
-        let both = (refuse_none _ Tables _ back).1 in
-        subst (λ answer. Onward kind rows g size entries now is_sealed cells groups first second (Route room) answer s') (sym told)
-        (stays kind rows g size entries now is_sealed cells groups first second holds (Route room) (route marks (marked kind rows ruler.sum first second (area size))) s' step.rest refl refl refl
-        (right_truth _ _ _ _ refl back
-        (route_held kind rows ruler g (trimmed size cells groups) first second (first_of_both both).is (second_of_both both).is laws ruled adds holds.fits)))
+  -- where neither map is outdated both are held
+  both_held : seal_refusal s.plate ≡ None →
+      Held (measured_by by (board_of s) 1) s.first × Held (measured_by by (board_of s) 2) s.second
+  both_held none =
+      let parts = or_parts _ _ (refuse_none _ Outdated _ none).0 in
+      (stands.first_held (not-false _ parts.0), stands.second_held (not-false _ parts.1))
 
-    pub route_step : (room : ℕ) (answer : Said L) (s' : State R) → Steps entries (stands size now is_sealed cells groups first second) answer s' kind rows g (Some ruler.sum) (Route room) → Onward kind rows g size entries now is_sealed cells groups first second (Route room) answer s'
-    route_step room answer s' step = route_judged room answer s' step (route_refusal (stands size now is_sealed cells groups first second).header (length first) (length second) room) refl
+  module _ (ruler : Ruling L) (ruled : RulerLaws by.kind ruler) (adds : ByAdding ruler by.gauge) where
+    abbrev n : ℕ
+    n = area s.plate.size
+
+    gap_read : GapStep by s answer s' (Some ruler.sum) → Onward by s answer s' Gap
+    gap_read =
+        read Gap gap (least_sum by.kind ruler.sum s.first s.second n) _ refl
+        (λ none.
+        let both = both_held (refuse_none _ Tables _ none).1 in
+        gap_held by.kind ruler by.gauge (board_of s) s.first s.second both.0 both.1
+        laws.kind ruled adds (board_fits by s stands))
+
+    route_read : (room : ℕ) → RouteStep by s answer s' (Some ruler.sum) room →
+        Onward by s answer s' (Route room)
+    route_read room =
+        read (Route room) (route (route_marks by.kind ruler.sum s.first s.second n))
+        (marked by.kind ruler.sum s.first s.second n) _ refl
+        (λ none.
+        let both = both_held (refuse_none _ Tables _ (refuse_none _ Tables _ none).1).1 in
+        route_held by.kind ruler by.gauge (board_of s) s.first s.second both.0 both.1
+        laws.kind ruled adds (board_fits by s stands))
+
+  pub gap_step : (sums : Option (L → L → L)) → OfRuler by.kind by.gauge sums →
+      GapStep by s answer s' sums → Onward by s answer s' Gap
+  gap_step None of_ruler step = absurd step
+  gap_step (Some sum) (ruler, is, ruled, adds) step =
+      gap_read ruler ruled adds (subst (λ sum. GapStep by s answer s' (Some sum)) (sym is) step)
+
+  pub route_step : (sums : Option (L → L → L)) → OfRuler by.kind by.gauge sums → (room : ℕ) →
+      RouteStep by s answer s' sums room → Onward by s answer s' (Route room)
+  route_step None of_ruler room step = absurd step
+  route_step (Some sum) (ruler, is, ruled, adds) room step =
+      route_read ruler ruled adds room
+      (subst (λ sum. RouteStep by s answer s' (Some sum) room) (sym is) step)

@@ -1,17 +1,19 @@
--- Calls that write no list or no marks say none. Assumes nothing.
-use Rattle.std.proofs.Common.{◌≡◌, ℕ, Bool, true, false, List, [], length, None, Some, Ok, Err, Option, Result, refl, sym, subst, ap, ◌∙◌, arith}
-use Rattle.board.specs.declared.refusal.Refusal.{Refusal}
-use Rattle.lengths.specs.Kinds.{Kind, Rows}
-use Rattle.gauges.specs.Meanings.{Crossing}
+-- Calls that write no list or no marks leave them. Assumes nothing.
+use Rattle.std.proofs.Common.{◌≡◌, ℕ, Bool, true, false, List, length, take, None, Some, Ok, Err, Option, Result, refl, ap, ◌∙◌, arith}
+use Rattle.board.specs.Sizes.{area}
+use Rattle.board.specs.declared.cell.Cell.{Cell}
+use Rattle.board.specs.declared.record.MapRecord.{MapRecord}
 use Rattle.measuring.specs.declared.Counts.{Counts}
-use Rattle.runs.specs.Replies.{cells_counted, cells_told, in_front, marks_told, told, way_within}
+use Rattle.plate.specs.declared.refusal.Refusal.{Refusal}
+use Rattle.queue.specs.declared.offer.Offer.{Offer}
+use Rattle.runs.specs.Measurers.{Measurer}
+use Rattle.runs.specs.Plates.{header_of, state}
+use Rattle.runs.specs.Replies.{CarriedOut, ListLeft, in_front, marks_told, told, told_of, within}
 use Rattle.runs.specs.Said.{Said}
 use Rattle.runs.specs.Said.Said.{done, measured, distance, nearest, way, gap, route, refused, not_allowed}
-use Rattle.runs.specs.Histories.{measured_now}
-use Rattle.runs.specs.Steps.{Carries, QueueLeft, State, Steps, Unless, telling}
+use Rattle.runs.specs.Steps.{CarriesOut, GapStep, RouteStep, State, Steps, Unless, telling}
 use Rattle.runs.specs.Truths.{allowed}
-use Rattle.runs.specs.declared.call.Call.{Call}
-use Rattle.runs.specs.declared.call.Call.TheVariants.{Set, Bar, Enrol, Measure, Distance, Nearest, Way, Seal, Break}
+use Rattle.runs.specs.declared.call.Call.TheVariants.{Edit, Measure, Distance, Nearest, Way, Seal, Break}
 use Rattle.runs.specs.declared.call.RulerCall.{RulerCall}
 use Rattle.runs.specs.declared.call.RulerCall.TheVariants.{Plain, Gap, Route}
 use Rattle.runs.specs.declared.plates.Plate.{Plate}
@@ -42,152 +44,154 @@ Unlisted says (Plain (Way row column group room)) = (cells : List ℕ) → says 
 Unlisted says (Route room) = (marks : List ℕ) (count : ℕ) → says (route marks count) ≡ false
 Unlisted says _ = Unit {0}
 
-telling_silent : {L X : Type 0} (says : Said L → Bool) (silent : Silent says) (tell : X → Said L) → ((x : X) → says (tell x) ≡ false) → (r : Result X Refusal) → says (telling tell r) ≡ false
+telling_silent : {L X : Type 0} (says : Said L → Bool) (silent : Silent says) (tell : X → Said L) →
+    ((x : X) → says (tell x) ≡ false) → (r : Result X Refusal) → says (telling tell r) ≡ false
 telling_silent says silent tell none (Ok x) = none x
 telling_silent says silent tell none (Err e) = silent.at_refusal e
 
-module _ {L R : Type 0} (says : Said L → Bool) (silent : Silent says) (kind : Kind L) (rows : Rows L R) (g : Crossing L) (sums : Option (L → L → L)) (entries : ℕ) (s : State R) (answer : Said L) (s' : State R) where
-  told_silent : {X : Type 0} (tell : X → Said L) → ((x : X) → says (tell x) ≡ false) → (r : Result X Refusal) → answer ≡ telling tell r → says answer ≡ false
+module _ {L R : Type 0} (says : Said L → Bool) (silent : Silent says) (by : Measurer L R)
+    (s : State R) (answer : Said L) (s' : State R) where
+  told_silent : {X : Type 0} (tell : X → Said L) → ((x : X) → says (tell x) ≡ false) →
+      (r : Result X Refusal) → answer ≡ telling tell r → says answer ≡ false
   told_silent tell none r is = ap says is ∙ telling_silent says silent tell none r
 
-  carried_silent : (call : RulerCall) (sums : Option (L → L → L)) → Unlisted says call → Carries entries s answer s' kind rows g sums call → says answer ≡ false
-  carried_silent (Plain (Set row column height pad)) sums _ step = told_silent (λ x. done) (λ x. silent.at_done) _ step.1.told
-  carried_silent (Plain (Bar row column)) sums _ step = told_silent (λ x. done) (λ x. silent.at_done) _ step.told
-  carried_silent (Plain (Enrol pad group)) sums _ step = told_silent (λ x. done) (λ x. silent.at_done) _ step.told
-  carried_silent (Plain (Measure group)) sums _ step = told_silent measured silent.at_counts _ step.told
-  carried_silent (Plain (Distance row column group)) sums _ step = told_silent distance silent.at_distance _ step.0
-  carried_silent (Plain (Nearest row column group)) sums _ step = told_silent nearest silent.at_nearest _ step.0
-  carried_silent (Plain (Way row column group room)) sums none step = told_silent _ (λ count. none _) _ step.told
-  carried_silent (Plain Seal) sums _ step = told_silent (λ x. done) (λ x. silent.at_done) _ step.0
-  carried_silent (Plain Break) sums _ step = ap says step.0 ∙ silent.at_done
-  carried_silent Gap None _ step = absurd step
-  carried_silent Gap (Some sum) _ step = told_silent gap silent.at_gap _ step.0
-  carried_silent (Route room) None none step = absurd step
-  carried_silent (Route room) (Some sum) none step = told_silent _ (none _) _ step.told
+  gap_silent : (sums : Option (L → L → L)) → GapStep by s answer s' sums → says answer ≡ false
+  gap_silent None step = absurd step
+  gap_silent (Some sum) step = told_silent gap silent.at_gap _ step.told
 
-  unless_silent : (may : Bool) (carried : Type 0) → (carried → says answer ≡ false) → Unless entries s answer s' may carried → says answer ≡ false
+  route_silent : (sums : Option (L → L → L)) (room : ℕ) →
+      ((marks : List ℕ) (count : ℕ) → says (route marks count) ≡ false) →
+      RouteStep by s answer s' sums room → says answer ≡ false
+  route_silent None room none step = absurd step
+  route_silent (Some sum) room none step = told_silent _ (none _) _ step.told
+
+  carried_silent : (call : RulerCall) → Unlisted says call → CarriesOut by s answer s' call →
+      says answer ≡ false
+  carried_silent (Plain (Edit e)) _ step =
+      told_silent {X = Unit {0}} (λ x. done) (λ x. silent.at_done) _ step.1.told
+  carried_silent (Plain (Measure group)) _ step = told_silent measured silent.at_counts _ step.told
+  carried_silent (Plain (Distance row column group)) _ step =
+      told_silent distance silent.at_distance _ step.told
+  carried_silent (Plain (Nearest row column group)) _ step =
+      told_silent nearest silent.at_nearest _ step.told
+  carried_silent (Plain (Way row column group room)) none step = told_silent way none _ step.told
+  carried_silent (Plain Seal) _ step =
+      told_silent {X = Unit {0}} (λ x. done) (λ x. silent.at_done) _ step.told
+  carried_silent (Plain Break) _ step =
+      told_silent {X = Unit {0}} (λ x. done) (λ x. silent.at_done) (Ok tt) step.told
+  carried_silent Gap _ step = gap_silent by.sums step
+  carried_silent (Route room) none step = route_silent by.sums room none step
+
+  unless_silent : (may : Bool) (carried : Type 0) → (carried → says answer ≡ false) →
+      Unless by s answer s' may carried → says answer ≡ false
   unless_silent true carried then step = then step
   unless_silent false carried then step = ap says step.0 ∙ silent.at_state
 
-  step_silent : (call : RulerCall) → Unlisted says call → Steps entries s answer s' kind rows g sums call → says answer ≡ false
-  step_silent call none step = unless_silent (allowed s.is_sealed call) _ (carried_silent call sums none) step
+  step_silent : (call : RulerCall) → Unlisted says call → Steps by call answer s s' →
+      says answer ≡ false
+  step_silent call none step =
+      unless_silent (allowed s.is_sealed call) _ (carried_silent call none) step
 
-no_cells : {L : Type 0} (reply : Reply L) (list marks : List ℕ) → says_cells (told reply list marks) ≡ false → cells_told reply list ≡ []
-no_cells (reply.Way count) list marks says = absurd (grind arith)
-no_cells reply.Done list marks says = refl
-no_cells (reply.Measured counts) list marks says = refl
-no_cells (reply.Distance d) list marks says = refl
-no_cells (reply.Nearest p) list marks says = refl
-no_cells (reply.Gap d) list marks says = refl
-no_cells (reply.Route count) list marks says = refl
-no_cells (reply.Refused e) list marks says = refl
-no_cells reply.NotAllowed list marks says = refl
+-- a reply that says no cells leaves the list, one that says no marks leaves the marks, and is told
+-- alike with any
+unlisted_reply : {L : Type 0} (answer : Reply L) (list marks : List ℕ) →
+    says_cells (told answer list marks) ≡ false → ListLeft answer list list
+unlisted_reply (reply.Way count) list marks says = absurd (grind arith)
+unlisted_reply reply.Done list marks says = record { cells = refl; count = refl }
+unlisted_reply (reply.Measured counts) list marks says = record { cells = refl; count = refl }
+unlisted_reply (reply.Distance d) list marks says = record { cells = refl; count = refl }
+unlisted_reply (reply.Nearest p) list marks says = record { cells = refl; count = refl }
+unlisted_reply (reply.Gap d) list marks says = record { cells = refl; count = refl }
+unlisted_reply (reply.Route count) list marks says = record { cells = refl; count = refl }
+unlisted_reply (reply.Refused e) list marks says = record { cells = refl; count = refl }
+unlisted_reply reply.NotAllowed list marks says = record { cells = refl; count = refl }
 
-no_count : {L : Type 0} (reply : Reply L) (list marks : List ℕ) → says_cells (told reply list marks) ≡ false → cells_counted reply ≡ length (cells_told reply list)
-no_count (reply.Way count) list marks says = absurd (grind arith)
-no_count reply.Done list marks says = refl
-no_count (reply.Measured counts) list marks says = refl
-no_count (reply.Distance d) list marks says = refl
-no_count (reply.Nearest p) list marks says = refl
-no_count (reply.Gap d) list marks says = refl
-no_count (reply.Route count) list marks says = refl
-no_count (reply.Refused e) list marks says = refl
-no_count reply.NotAllowed list marks says = refl
+pub record Unmarked {L : Type 0} (answer : Reply L) (list marks : List ℕ) : Type 0 where
+  pub stays : (p : Plate) (table : List ℕ) → table ≡ in_front (marks_told p answer table) table
+  pub alike : (others : List ℕ) → told answer list marks ≡ told answer list others
 
-no_marks : {L : Type 0} (plate : Plate) (reply : Reply L) (list marks lent : List ℕ) → says_marks (told reply list lent) ≡ false → marks_told plate reply marks ≡ []
-no_marks plate (reply.Route count) list marks lent says = absurd (grind arith)
-no_marks plate reply.Done list marks lent says = refl
-no_marks plate (reply.Measured counts) list marks lent says = refl
-no_marks plate (reply.Distance d) list marks lent says = refl
-no_marks plate (reply.Nearest p) list marks lent says = refl
-no_marks plate (reply.Gap d) list marks lent says = refl
-no_marks plate (reply.Way count) list marks lent says = refl
-no_marks plate (reply.Refused e) list marks lent says = refl
-no_marks plate reply.NotAllowed list marks lent says = refl
+unmarked_reply : {L : Type 0} (answer : Reply L) (list marks : List ℕ) →
+    says_marks (told answer list marks) ≡ false → Unmarked answer list marks
+unmarked_reply (reply.Route count) list marks says = absurd (grind arith)
+unmarked_reply reply.Done list marks says = record { stays = λ _ _. refl; alike = λ _. refl }
+unmarked_reply (reply.Measured counts) list marks says =
+    record { stays = λ _ _. refl; alike = λ _. refl }
+unmarked_reply (reply.Distance d) list marks says =
+    record { stays = λ _ _. refl; alike = λ _. refl }
+unmarked_reply (reply.Nearest p) list marks says = record { stays = λ _ _. refl; alike = λ _. refl }
+unmarked_reply (reply.Gap d) list marks says = record { stays = λ _ _. refl; alike = λ _. refl }
+unmarked_reply (reply.Way count) list marks says = record { stays = λ _ _. refl; alike = λ _. refl }
+unmarked_reply (reply.Refused e) list marks says = record { stays = λ _ _. refl; alike = λ _. refl }
+unmarked_reply reply.NotAllowed list marks says = record { stays = λ _ _. refl; alike = λ _. refl }
 
 silent_cells : {L : Type 0} → Silent {L = L} says_cells
-silent_cells = record { at_done = refl; at_counts = λ _. refl; at_distance = λ _. refl; at_nearest = λ _. refl; at_gap = λ _. refl; at_refusal = λ _. refl; at_state = refl }
+silent_cells = record {
+  at_done = refl;
+  at_counts = λ _. refl;
+  at_distance = λ _. refl;
+  at_nearest = λ _. refl;
+  at_gap = λ _. refl;
+  at_refusal = λ _. refl;
+  at_state = refl;
+}
 
 silent_marks : {L : Type 0} → Silent {L = L} says_marks
-silent_marks = record { at_done = refl; at_counts = λ _. refl; at_distance = λ _. refl; at_nearest = λ _. refl; at_gap = λ _. refl; at_refusal = λ _. refl; at_state = refl }
+silent_marks = record {
+  at_done = refl;
+  at_counts = λ _. refl;
+  at_distance = λ _. refl;
+  at_nearest = λ _. refl;
+  at_gap = λ _. refl;
+  at_refusal = λ _. refl;
+  at_state = refl;
+}
 
--- no plain call says marks
-pub plain_unmarked : (L : Type 0) (call : Call) → Unlisted {L = L} says_marks (Plain call)
-plain_unmarked L (Way row column group room) = λ cells. refl
-plain_unmarked L (Set row column height pad) = tt
-plain_unmarked L (Bar row column) = tt
-plain_unmarked L (Enrol pad group) = tt
-plain_unmarked L (Measure group) = tt
-plain_unmarked L (Distance row column group) = tt
-plain_unmarked L (Nearest row column group) = tt
-plain_unmarked L Seal = tt
-plain_unmarked L Break = tt
+module _ {L R : Type 0} (by : Measurer L R) (call : RulerCall) (s s' : State R) (answer : Reply L)
+    (list marks : List ℕ) (step : Steps by call (told answer list marks) s s') where
+  pub unlisted : Unlisted {L = L} says_cells call → ListLeft answer list list
+  unlisted none = unlisted_reply answer list marks
+      (step_silent says_cells silent_cells by s (told answer list marks) s' call none step)
 
--- a call that is this one, which is no way
-pub not_way : (L : Type 0) (n : ℕ) (call call' : Call) → call ≡ call' → Unlisted {L = L} says_cells (Plain (way_within n call')) → Unlisted {L = L} says_cells (Plain (way_within n call))
-not_way L n call call' is none = subst (λ call. Unlisted {L = L} says_cells (Plain (way_within n call))) (sym is) none
+  pub unmarked : Unlisted {L = L} says_marks call → Unmarked answer list marks
+  unmarked none = unmarked_reply answer list marks
+      (step_silent says_marks silent_marks by s (told answer list marks) s' call none step)
 
-module _ {L R : Type 0} (kind : Kind L) (rows : Rows L R) (g : Crossing L) (sums : Option (L → L → L)) (entries : ℕ) (s s' : State R) (answer : Reply L) (list marks : List ℕ) (call : RulerCall) (step : Steps entries s (told answer list marks) s' kind rows g sums call) where
-  pub list_unused : Unlisted {L = L} says_cells call → cells_told answer list ≡ []
-  list_unused none = no_cells answer list marks (step_silent says_cells silent_cells kind rows g sums entries s (told answer list marks) s' call none step)
+-- a call that is no route leaves the marks
+pub carried_listing : {L R : Type 0} (by : Measurer L R) (call : RulerCall) {p p' : Plate}
+    {answer : Reply L} {cells cells' : List Cell} {groups groups' : List ℕ}
+    {first first' second second' : List (MapRecord R)} {queue queue' : List (Offer R)}
+    (list list' marks : List ℕ) →
+    Unlisted {L = L} says_marks (within (length list) (length marks) call) →
+    ListLeft answer list list' →
+    Steps by (within (length list) (length marks) call) (told_of p answer list' marks)
+    (state p cells groups first second queue) (state p' cells' groups' first' second' queue') →
+    CarriedOut by call p (p', answer) cells cells' groups groups' first first' second second' queue
+    queue' list list' marks marks
+carried_listing by call {p} {p'} {answer} {cells} {cells'} {groups} {groups'} {first} {first'}
+    {second} {second'} {queue} {queue'} list list' marks no_marks left step = record {
+      step = step;
+      on_list = left;
+      on_marks = (unmarked by (within (length list) (length marks) call)
+          (state p cells groups first second queue)
+          (state p' cells' groups' first' second' queue') answer list'
+          (take (area (header_of p).size) marks) step no_marks).stays p marks;
+    }
 
-  pub none_counted : Unlisted {L = L} says_cells call → cells_counted answer ≡ length (cells_told answer list)
-  none_counted none = no_count answer list marks (step_silent says_cells silent_cells kind rows g sums entries s (told answer list marks) s' call none step)
-
-  pub marks_unused : Unlisted {L = L} says_marks call → (plate : Plate) (lent : List ℕ) → marks_told plate answer lent ≡ []
-  marks_unused none plate lent = no_marks plate answer list lent marks (step_silent says_marks silent_marks kind rows g sums entries s (told answer list marks) s' call none step)
-
--- a list of which nothing is said stays
-pub list_kept : {L : Type 0} (a : Reply L) (list table : List ℕ) → list ≡ table → cells_told a list ≡ [] → list ≡ in_front (cells_told a list) table
-list_kept a list table same none = same ∙ sym (ap (λ cells. in_front cells table) none)
-
--- a count by values that are equal to these
-pub counted_alike : {L : Type 0} (a a' : Reply L) (list list' : List ℕ) → a' ≡ a → list' ≡ list → cells_counted a ≡ length (cells_told a list) → cells_counted a' ≡ length (cells_told a' list')
-counted_alike a a' list list' ea el counted = ap cells_counted ea ∙ counted ∙ sym (λ k. length (cells_told (ea k) (el k)))
-
--- a list that was written, by values that are equal to these
-pub list_written : {L : Type 0} (a a' : Reply L) (list list' table : List ℕ) → a' ≡ a → list' ≡ list → list ≡ in_front (cells_told a list) table → list' ≡ in_front (cells_told a' list') table
-list_written a a' list list' table ea el written = el ∙ written ∙ sym (λ k. in_front (cells_told (ea k) (el k)) table)
-
--- marks of which nothing is said stay
-pub marks_kept : {L : Type 0} (plate : Plate) (a : Reply L) (marks : List ℕ) → marks_told plate a marks ≡ [] → marks ≡ in_front (marks_told plate a marks) marks
-marks_kept plate a marks none = sym (ap (λ front. in_front front marks) none)
-
--- a reply that says no marks is told alike with any
-told_alike : {L : Type 0} (a : Reply L) (list marks marks' : List ℕ) → says_marks (told a list marks) ≡ false → told a list marks ≡ told a list marks'
-told_alike (reply.Route count) list marks marks' says = absurd (grind arith)
-told_alike reply.Done list marks marks' says = refl
-told_alike (reply.Measured counts) list marks marks' says = refl
-told_alike (reply.Distance d) list marks marks' says = refl
-told_alike (reply.Nearest p) list marks marks' says = refl
-told_alike (reply.Gap d) list marks marks' says = refl
-told_alike (reply.Way count) list marks marks' says = refl
-told_alike (reply.Refused e) list marks marks' says = refl
-told_alike reply.NotAllowed list marks marks' says = refl
-
-module _ {L R : Type 0} (kind : Kind L) (rows : Rows L R) (g : Crossing L) (entries : ℕ) (s s' : State R) where
-  -- a plain call asks for no sums
-  with_sums : (answer : Said L) (sums : Option (L → L → L)) (call : Call) → Steps entries s answer s' kind rows g None (Plain call) → Steps entries s answer s' kind rows g sums (Plain call)
-  with_sums answer sums (Set row column height pad) step = step
-  with_sums answer sums (Bar row column) step = step
-  with_sums answer sums (Enrol pad group) step = step
-  with_sums answer sums (Measure group) step = step
-  with_sums answer sums (Distance row column group) step = step
-  with_sums answer sums (Nearest row column group) step = step
-  with_sums answer sums (Way row column group room) step = step
-  with_sums answer sums Seal step = step
-  with_sums answer sums Break step = step
-
-  module _ (a : Reply L) (list : List ℕ) (call : Call) (step : Steps entries s (told a list []) s' kind rows g None (Plain call)) where
-    -- nor for marks
-    pub plain_told : (marks : List ℕ) → told a list [] ≡ told a list marks
-    plain_told marks = told_alike a list [] marks (step_silent says_marks silent_marks kind rows g None entries s (told a list []) s' (Plain call) (plain_unmarked L call) step)
-
-    pub plain_step : (sums : Option (L → L → L)) (marks : List ℕ) → Steps entries s (told a list marks) s' kind rows g sums (Plain call)
-    plain_step sums marks = with_sums (told a list marks) sums call (subst (λ answer. Steps entries s answer s' kind rows g None (Plain call)) (plain_told marks) step)
-
-    pub plain_queue : {E : Type 0} (n : ℕ) (was is : List E) (asked : RulerCall) (marks : List ℕ) → QueueLeft n (measured_now asked (told a list [])) was is → QueueLeft n (measured_now asked (told a list marks)) was is
-    plain_queue n was is asked marks left = subst (λ answer. QueueLeft n (measured_now asked answer) was is) (plain_told marks) left
-
-    pub plain_marks : (plate : Plate) (marks : List ℕ) → marks ≡ in_front (marks_told plate a marks) marks
-    plain_marks plate marks = marks_kept plate a marks (marks_unused kind rows g None entries s s' a list [] (Plain call) step (plain_unmarked L call) plate marks)
+-- and one that is no way either leaves the list
+pub carried_plainly : {L R : Type 0} (by : Measurer L R) (call : RulerCall) {p p' : Plate}
+    {answer : Reply L} {cells cells' : List Cell} {groups groups' : List ℕ}
+    {first first' second second' : List (MapRecord R)} {queue queue' : List (Offer R)}
+    (list marks : List ℕ) →
+    Unlisted {L = L} says_cells (within (length list) (length marks) call) →
+    Unlisted {L = L} says_marks (within (length list) (length marks) call) →
+    Steps by (within (length list) (length marks) call) (told_of p answer list marks)
+    (state p cells groups first second queue) (state p' cells' groups' first' second' queue') →
+    CarriedOut by call p (p', answer) cells cells' groups groups' first first' second second' queue
+    queue' list list marks marks
+carried_plainly by call {p} {p'} {answer} {cells} {cells'} {groups} {groups'} {first} {first'}
+    {second} {second'} {queue} {queue'} list marks no_cells no_marks step =
+    carried_listing by call list list marks no_marks
+    (unlisted by (within (length list) (length marks) call)
+    (state p cells groups first second queue)
+    (state p' cells' groups' first' second' queue') answer list
+    (take (area (header_of p).size) marks) step no_cells) step

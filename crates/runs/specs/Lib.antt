@@ -1,3 +1,4 @@
+pub mod Measurers
 pub mod Said
 pub mod Histories
 pub mod Links

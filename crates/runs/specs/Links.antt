@@ -18,23 +18,25 @@ pad_in None = None
 pad_in (Some r) = Some r.pad
 
 -- the cell's link, and its pad; none where it is not reached
-abbrev pub link_of : {L : Type 0} → Measuring L → ℕ → Option ℕ
+abbrev pub link_of : {L R : Type 0} → Measuring L R → ℕ → Option ℕ
 link_of m j = link_in (ranked_by (ranking m) j)
 
-abbrev pub pad_of : {L : Type 0} → Measuring L → ℕ → Option ℕ
+abbrev pub pad_of : {L R : Type 0} → Measuring L R → ℕ → Option ℕ
 pad_of m j = pad_in (ranked_by (ranking m) j)
 
 -- each cell is followed by its link, and the last one is linked to itself
-abbrev pub Linked : {L : Type 0} → Measuring L → List ℕ → Type 0
+abbrev pub Linked : {L R : Type 0} → Measuring L R → List ℕ → Type 0
 Linked m [] = ⊥
 Linked m (i ∷ []) = link_of m i ≡ Some i
 Linked m (j ∷ i ∷ cells) = (link_of m j ≡ Some i) × Linked m (i ∷ cells)
 
--- the way from a cell by way of the cells behind it: along the links, backwards a path that is as short as any, from a source
--- that has the cell's pad
-pub record WayBack {L : Type 0} (m : Measuring L) (j : ℕ) (behind : List ℕ) : Type 0 where
+-- the way from a cell by way of the cells behind it: along the links, backwards a path that is as
+-- short as any, from a source that has the cell's pad
+pub record WayBack {L R : Type 0} (m : Measuring L R) (j : ℕ) (behind : List ℕ) : Type 0 where
   pub linked : Linked m (j ∷ behind)
   pub length_of : L
   pub path : Path m j behind length_of
   pub least : (others : List ℕ) (b : L) → Path m j others b → m.kind.le length_of b ≡ true
-  pub source : pad_of m j ≡ Some (source_of m.board m.group (slice_index_or (j ∷ behind) (length behind) j))
+  pub source :
+      pad_of m j ≡
+      Some (source_of m.board m.group (slice_index_or (j ∷ behind) (length behind) j))

@@ -1,76 +1,125 @@
--- What a run answers, a list of calls on a plate just opened, and what it leaves in the tables. Assumes nothing.
-use Rattle.std.specs.Prelude.{◌≡◌, ℕ, ◌*◌, ◌||◌, List, [], ◌∷◌, length, None, Option, nat_lt}
-use Rattle.board.specs.Refusals.{refuse}
-use Rattle.board.specs.Sizes.{Sized, area, bad_size}
+-- What a run answers, a list of calls on a plate just opened, and what it leaves in the tables.
+-- Assumes nothing.
+use Rattle.std.specs.Prelude.{◌≡◌, ℕ, Bool, false, List, [], ◌∷◌, length, drop, map, None, Some, Ok, Err, Result, Vec}
+use Rattle.std.specs.Borrow.{MutBor}
+use Rattle.board.specs.Sizes.{Sized}
 use Rattle.board.specs.declared.cell.Cell.{Cell}
 use Rattle.board.specs.declared.record.MapRecord.{MapRecord}
-use Rattle.board.specs.declared.refusal.Refusal.{Refusal}
-use Rattle.board.specs.declared.refusal.Refusal.TheVariants.{Size as BadSize, Tables}
+use Rattle.board.specs.declared.size.Dimensions.{Dimensions}
 use Rattle.board.specs.declared.size.Size.{Size}
-use Rattle.lengths.specs.Kinds.{Kind, Rows}
-use Rattle.gauges.specs.Meanings.{Crossing}
+use Rattle.measuring.specs.Maps.{entries_needed}
+use Rattle.plate.specs.Refusals.{open_refusal}
+use Rattle.plate.specs.declared.refusal.Refusal.{Refusal}
 use Rattle.queue.specs.declared.offer.Offer.{Offer}
-use Rattle.runs.specs.Said.{Said}
+use Rattle.runs.specs.Measurers.{Measurer}
+use Rattle.runs.specs.Said.{Said, said}
 use Rattle.runs.specs.Histories.{Event, measured_ever}
-use Rattle.runs.specs.Steps.{Leads, QueueLeft, Starts, State}
+use Rattle.runs.specs.Steps.{Leads, Starts, State}
 use Rattle.runs.specs.Truths.{Rooms, Truthful}
+use Rattle.runs.specs.declared.answer.Answer.{Answer}
 use Rattle.runs.specs.declared.call.RulerCall.{RulerCall}
+use Rattle.runs.specs.declared.plates.Tables.{Tables}
 
 -- the calls with their answers, the last one first, after those before
-abbrev pub happened : {L : Type 0} → List RulerCall → List (Said L) → List (Event L) → List (Event L)
+abbrev pub happened : {L : Type 0} → List RulerCall → List (Said L) → List (Event L) →
+    List (Event L)
 happened [] answers before = before
 happened (call ∷ calls) [] before = before
-happened (call ∷ calls) (answer ∷ answers) before = happened calls answers (record { call = call; answer = answer } ∷ before)
+happened (call ∷ calls) (answer ∷ answers) before =
+    happened calls answers (record { call = call; answer = answer } ∷ before)
 
--- the lengths of tables
-abbrev pub rooms : {A B C D E : Type 0} → List A → List B → List C → List D → List E → Rooms
-rooms cells groups first second entries = record { cells = length cells; groups = length groups; first = length first; second = length second; entries = length entries }
-
--- why a plate is not opened
-abbrev pub opening_back : Rooms → ℕ → ℕ → Option Refusal
-opening_back rooms r c =
-    refuse (bad_size r c) BadSize
-    (refuse (nat_lt rooms.cells (r * c) || nat_lt rooms.groups 64) Tables None)
-
--- what the lent tables hold
-pub record Held (R : Type 0) : Type 0 where
+-- what lent tables hold
+pub record Contents (R : Type 0) : Type 0 where
   pub cells : List Cell
   pub groups : List ℕ
   pub first : List (MapRecord R)
   pub second : List (MapRecord R)
-  pub entries : List (Offer R)
+  pub queue : List (Offer R)
 
-abbrev pub holding : {R : Type 0} → List Cell → List ℕ → List (MapRecord R) → List (MapRecord R) → List (Offer R) → Held R
-holding cells groups first second entries = record { cells = cells; groups = groups; first = first; second = second; entries = entries }
+abbrev pub holding : {R : Type 0} → List Cell → List ℕ → (first second : List (MapRecord R)) →
+    List (Offer R) → Contents R
+holding cells groups first second queue =
+    record { cells = cells; groups = groups; first = first; second = second; queue = queue }
 
-abbrev pub rooms_held : {R : Type 0} → Held R → Rooms
-rooms_held held = rooms held.cells held.groups held.first held.second held.entries
+-- before a run
+abbrev pub held : {R : Type 0} → Tables R → Contents R
+held tables = holding tables.cells.now tables.groups.now tables.first.now tables.second.now
+    tables.entries.now
 
--- the calls that are answered lead from a plate with its tables and its queue to what is left in them; the entries that measuring
--- needs are left open once a group was measured
-pub record LeadsTo {L R : Type 0} (kind : Kind L) (rows : Rows L R) (g : Crossing L) (sums : Option (L → L → L)) (start : State R) (entries : List (Offer R)) (calls : List RulerCall) (answers : List (Said L)) (left : Held R) : Type 0 where
+-- and after it
+abbrev pub left : {R : Type 0} →
+    MutBor (List Cell) × (MutBor (List ℕ) ×
+    (MutBor (List (MapRecord R)) ×
+    (MutBor (List (MapRecord R)) × (MutBor (List (Offer R)) × Unit {0})))) → Contents R
+left ends = holding ends.0.now ends.1.0.now ends.1.1.0.now ends.1.1.1.0.now ends.1.1.1.1.0.now
+
+-- their lengths
+abbrev pub rooms : {R : Type 0} → Contents R → Rooms
+rooms held = record {
+  cells = length held.cells;
+  groups = length held.groups;
+  first = length held.first;
+  second = length held.second;
+  queue = length held.queue;
+}
+
+-- what is left in a queue of which measuring needs n entries: those behind them stay, and all stay
+-- where nothing was measured
+pub record QueueLeft {E : Type 0} (n : ℕ) (was_measured : Bool) (entries entries' : List E) :
+    Type 0 where
+  pub behind : drop n entries' ≡ drop n entries
+  pub unused : was_measured ≡ false → entries' ≡ entries
+
+-- the calls that are answered lead from a plate with its tables to what is left in them
+pub record LeadsTo {L R : Type 0} (by : Measurer L R) (start : State R) (calls : List RulerCall)
+    (answers : List (Said L)) (left : Contents R) : Type 0 where
   pub after : State R
-  pub leads : Leads kind rows g sums (length entries) start (happened calls answers []) after
-  pub tables : (left.cells ≡ after.cells) × (left.groups ≡ after.groups) × (left.first ≡ after.first) × (left.second ≡ after.second)
-  pub queue : QueueLeft (9 * area start.header.size) (measured_ever (happened calls answers [])) entries left.entries
+  pub leads : Leads by start (happened calls answers []) after
+  pub cells : left.cells ≡ after.cells
+  pub groups : left.groups ≡ after.groups
+  pub first : left.first ≡ after.first
+  pub second : left.second ≡ after.second
+  pub queue : left.queue ≡ after.queue
+  pub queue_left : QueueLeft (entries_needed start.plate.size)
+      (measured_ever (happened calls answers [])) start.queue left.queue
 
 -- a plate is opened over the tables, and the calls lead on from there
-pub record Leaves {L R : Type 0} (r c : ℕ) (kind : Kind L) (rows : Rows L R) (g : Crossing L) (sums : Option (L → L → L)) (calls : List RulerCall) (answers : List (Said L)) (held left : Held R) : Type 0 where
+pub record Leaves {L R : Type 0} (asked : Dimensions) (by : Measurer L R) (calls : List RulerCall)
+    (answers : List (Said L)) (held left : Contents R) : Type 0 where
   pub start : State R
-  pub starts : Starts r c start
-  pub lent : (starts.cells ≡ held.cells) × (starts.groups ≡ held.groups) × (start.first ≡ held.first) × (start.second ≡ held.second)
-  pub leads_to : LeadsTo kind rows g sums start held.entries calls answers left
+  pub starts : Starts asked held.cells held.groups start
+  pub first : start.first ≡ held.first
+  pub second : start.second ≡ held.second
+  pub queue : start.queue ≡ held.queue
+  pub leads_to : LeadsTo by start calls answers left
 
--- all calls are made
-pub record Ran {L R : Type 0} (r c : ℕ) (kind : Kind L) (rows : Rows L R) (g : Crossing L) (sums : Option (L → L → L)) (calls : List RulerCall) (answers : List (Said L)) (held left : Held R) : Type 0 where
-  pub opened : opening_back (rooms_held held) r c ≡ None
-  pub all : length answers ≡ length calls
-  pub leaves : Leaves r c kind rows g sums calls answers held left
-
--- a plate of this size is opened, and every call has an answer that is true at that moment
-pub record Answered {L : Type 0} (rooms : Rooms) (r c : ℕ) (kind : Kind L) (gauge : Crossing L) (calls : List RulerCall) (answers : List (Said L)) : Type 0 where
-  pub opened : opening_back rooms r c ≡ None
+-- a plate of these dimensions is opened, and every call has an answer that is true at that moment
+pub record Answered {L R : Type 0} (room : Rooms) (asked : Dimensions) (by : Measurer L R)
+    (calls : List RulerCall) (answers : List (Said L)) : Type 0 where
+  pub opened : open_refusal asked room.cells room.groups ≡ None
   pub size : Size
-  pub sized : Sized size r c
+  pub sized : Sized size asked
   pub all : length answers ≡ length calls
-  pub truthful : Truthful rooms size kind gauge (happened calls answers [])
+  pub truthful : Truthful room size by (happened calls answers [])
+
+-- what a run comes to over tables that held this and are left so: true answers to all calls, or the
+-- one refusal, to open the plate
+abbrev pub Ran : {L R : Type 0} → Dimensions → Measurer L R → List RulerCall →
+    (held left : Contents R) → Result (List (Said L)) Refusal → Type 0
+Ran asked by calls held left (Ok answers) =
+    Answered (rooms held) asked by calls answers × Leaves asked by calls answers held left
+Ran asked by calls held left (Err e) =
+    (open_refusal asked (length held.cells) (length held.groups) ≡ Some e) × (left ≡ held)
+
+-- the same of answers to all calls that are not yet known to be true
+abbrev pub RanTo : {L R : Type 0} → Dimensions → Measurer L R → List RulerCall →
+    (held left : Contents R) → Result (List (Said L)) Refusal → Type 0
+RanTo asked by calls held left (Ok answers) =
+    (length answers ≡ length calls) × Leaves asked by calls answers held left
+RanTo asked by calls held left (Err e) = Ran asked by calls held left (Err e)
+
+-- what is said by the answers of a run, or its refusal
+abbrev pub said_all : {L A : Type 0} → Result (Vec (Answer L) A) Refusal →
+    Result (List (Said L)) Refusal
+said_all (Ok answers) = Ok (map said answers.items)
+said_all (Err e) = Err e

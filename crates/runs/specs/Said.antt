@@ -1,6 +1,6 @@
 -- What is said by an answer: what it lists is a plain list. Assumes nothing.
 use Rattle.std.specs.Prelude.{ℕ, Bool, true, false, List, Option}
-use Rattle.board.specs.declared.refusal.Refusal.{Refusal}
+use Rattle.plate.specs.declared.refusal.Refusal.{Refusal}
 use Rattle.measuring.specs.declared.Counts.{Counts}
 use Rattle.runs.specs.declared.answer.Answer.{Answer}
 use Rattle.runs.specs.declared.answer.Answer.TheVariants as answer

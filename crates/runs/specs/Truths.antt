@@ -1,23 +1,22 @@
 -- What is true of the answer of each call, by the calls before it. Assumes nothing.
-use Rattle.std.specs.Prelude.{◌≡◌, ℕ, zero, suc, ◌<◌, ◌+◌, ◌*◌, ◌⊎◌, Bool, true, false, cond, not, ◌||◌, List, [], ◌∷◌, length, map, Some, None, Option, Decides, MatchBool, MatchOption, ◌==◌, nat_lt}
+use Rattle.std.specs.Prelude.{◌≡◌, ℕ, ◌<◌, ◌⊎◌, Bool, true, false, cond, not, List, [], ◌∷◌, length, map, None, Some, Option, Decides, MatchBool, MatchOption, ◌==◌, nat_lt}
 use Rattle.std.specs.List.{range_with_len}
-use Rattle.board.specs.Groups.{no_group}
-use Rattle.board.specs.Refusals.{refuse}
-use Rattle.board.specs.Sizes.{area, cell_at, off}
-use Rattle.board.specs.declared.refusal.Refusal.{Refusal}
-use Rattle.board.specs.declared.refusal.Refusal.TheVariants.{Tables, Off, Pad, Group, Outdated, Short}
+use Rattle.board.specs.Sizes.{area, cell_at}
 use Rattle.board.specs.declared.size.Size.{Size}
-use Rattle.lengths.specs.Kinds.{Kind}
-use Rattle.gauges.specs.Meanings.{Crossing}
-use Rattle.measuring.specs.Boards.{Board, how_many, open_neighbours}
-use Rattle.measuring.specs.Paths.{Measuring, Path, PathBetween, measuring}
-use Rattle.geodesics.specs.Least.{Shortest}
-use Rattle.geodesics.specs.Between.{ShortestBetween, OnShortest}
+use Rattle.measuring.specs.Boards.{Board, open_neighbours}
+use Rattle.measuring.specs.Sums.{how_many, sum_below}
+use Rattle.measuring.specs.Paths.{Measuring, measuring}
+use Rattle.geodesics.specs.Least.{NoPath, Shortest}
+use Rattle.geodesics.specs.Between.{NoPathBetween, OnShortest, ShortestBetween}
+use Rattle.plate.specs.Refusals.{Standing, edit_refusal, gap_refusal, measure_refusal, reading_refusal, route_refusal, seal_refusal}
+use Rattle.plate.specs.declared.refusal.Refusal.{Refusal}
+use Rattle.plate.specs.declared.refusal.Refusal.TheVariants.{Short}
+use Rattle.runs.specs.Measurers.{Measurer}
 use Rattle.runs.specs.Said.{Said}
 use Rattle.runs.specs.Said.Said.{done, measured, distance, nearest, way, gap, route, refused, not_allowed}
-use Rattle.runs.specs.Histories.{Event, current, ledger, sealed}
+use Rattle.runs.specs.Histories.{Event, ledger, sealed, standing_by}
 use Rattle.runs.specs.Links.{WayBack, pad_of}
-use Rattle.runs.specs.declared.call.Call.TheVariants.{Set, Bar, Enrol, Measure, Distance, Nearest, Way, Seal, Break}
+use Rattle.runs.specs.declared.call.Call.TheVariants.{Edit, Measure, Distance, Nearest, Way, Seal, Break}
 use Rattle.runs.specs.declared.call.RulerCall.{RulerCall}
 use Rattle.runs.specs.declared.call.RulerCall.TheVariants.{Plain, Gap, Route}
 
@@ -27,7 +26,7 @@ pub record Rooms : Type 0 where
   pub groups : ℕ
   pub first : ℕ
   pub second : ℕ
-  pub entries : ℕ
+  pub queue : ℕ
 
 -- the map that is lent for a group: the first for group 1, and the second for any other
 abbrev pub map_room : Rooms → ℕ → ℕ
@@ -43,108 +42,89 @@ allowed is_sealed (Plain (Way row column group room)) = true
 allowed is_sealed (Plain Break) = is_sealed
 allowed is_sealed (Plain _) = not is_sealed
 
--- over the lengths of the tables, the plate's size, and whether each group's map is current
-module _ (rooms : Rooms) (size : Size) (now : ℕ → Bool) where
-  abbrev pub reading_back : ℕ → ℕ → ℕ → Option Refusal
-  reading_back row column group =
-      refuse (nat_lt (map_room rooms group) (area size)) Tables
-      (refuse (off size row column) Off
-      (refuse (no_group group) Group
-      (refuse (not (now group)) Outdated None)))
-
-  abbrev pub both_outdated : Option Refusal
-  both_outdated = refuse (not (now 1) || not (now 2)) Outdated None
-
-  -- the number by which a call is sent back; only a way that is too long comes after these
-  abbrev pub sent_back : RulerCall → Option Refusal
-  sent_back (Plain (Set row column height pad)) =
-      refuse (nat_lt rooms.cells (area size)) Tables
-      (refuse (off size row column) Off
-      (refuse (nat_lt 64 pad) Pad None))
-  sent_back (Plain (Bar row column)) =
-      refuse (nat_lt rooms.cells (area size)) Tables
-      (refuse (off size row column) Off None)
-  sent_back (Plain (Enrol pad group)) =
-      refuse (nat_lt rooms.groups 64) Tables
-      (refuse (pad == 0 || nat_lt 64 pad) Pad
-      (refuse (nat_lt 2 group) Group None))
-  sent_back (Plain (Measure group)) =
-      refuse ((nat_lt rooms.cells (area size) || nat_lt rooms.groups 64) || (nat_lt (map_room rooms group) (area size) || nat_lt rooms.entries (9 * area size))) Tables
-      (refuse (no_group group) Group None)
-  sent_back (Plain (Distance row column group)) = reading_back row column group
-  sent_back (Plain (Nearest row column group)) = reading_back row column group
-  sent_back (Plain (Way row column group room)) = reading_back row column group
-  sent_back (Plain Seal) = both_outdated
-  sent_back (Plain Break) = None
-  sent_back Gap = refuse (nat_lt rooms.first (area size) || nat_lt rooms.second (area size)) Tables both_outdated
-  sent_back (Route room) =
-      refuse (nat_lt room (area size)) Tables
-      (refuse (nat_lt rooms.first (area size) || nat_lt rooms.second (area size)) Tables both_outdated)
-
-abbrev pub NoPath : {L : Type 0} → Measuring L → ℕ → Type 0
-NoPath {L} m j = (cells : List ℕ) (a : L) → Path m j cells a → ⊥
-
-abbrev pub NoPathBetween : {L : Type 0} → Measuring L → ℕ → Type 0
-NoPathBetween {L} m other = (j : ℕ) (cells : List ℕ) (a : L) → PathBetween m other j cells a → ⊥
-
--- the sum of f over the numbers below n
-abbrev pub sum_below : (ℕ → ℕ) → ℕ → ℕ
-sum_below f zero = 0
-sum_below f (suc n) = sum_below f n + f n
+-- why a call is sent back, by the plate's rules over these tables; only a way that is too long for
+-- its list comes after these
+abbrev pub sent_back : Rooms → Standing → RulerCall → Option Refusal
+sent_back rooms p (Plain (Edit e)) = edit_refusal p.size rooms.cells rooms.groups e
+sent_back rooms p (Plain (Measure group)) =
+    measure_refusal p.size rooms.cells rooms.groups (map_room rooms group) rooms.queue group
+sent_back rooms p (Plain (Distance row column group)) =
+    reading_refusal p (map_room rooms group) row column group
+sent_back rooms p (Plain (Nearest row column group)) =
+    reading_refusal p (map_room rooms group) row column group
+sent_back rooms p (Plain (Way row column group room)) =
+    reading_refusal p (map_room rooms group) row column group
+sent_back rooms p (Plain Seal) = seal_refusal p
+sent_back rooms p (Plain Break) = None
+sent_back rooms p Gap = gap_refusal p rooms.first rooms.second
+sent_back rooms p (Route room) = route_refusal p rooms.first rooms.second room
 
 -- the cells to which there is a path are counted, and the open neighbours of each of them
-pub record CountsAre {L : Type 0} (m : Measuring L) (answer : Said L) : Type 0 where
+pub record CountsAre {L R : Type 0} (m : Measuring L R) (answer : Said L) : Type 0 where
   pub reached : ℕ → Bool
-  pub right : (j : ℕ) → j < area m.board.size → MatchBool (reached j) ((a : L) × Shortest m j a) (NoPath m j)
+  pub right : (j : ℕ) → j < area m.board.size →
+      MatchBool (reached j) ((a : L) × Shortest m j a) (NoPath m j)
   pub is : answer ≡ measured (record {
     reached = how_many reached (area m.board.size);
     steps = sum_below (λ j. cond (reached j) (open_neighbours m.board j) 0) (area m.board.size);
   })
 
--- a length that is answered is the least of a path to the cell, and none is answered exactly where there is no path
-pub record DistanceIs {L : Type 0} (m : Measuring L) (j : ℕ) (answer : Said L) : Type 0 where
+-- a length that is answered is the least of a path to the cell, and none is answered exactly where
+-- there is no path
+pub record DistanceIs {L R : Type 0} (m : Measuring L R) (j : ℕ) (answer : Said L) : Type 0 where
   pub found : Option L
   pub is : answer ≡ distance found
   pub right : MatchOption found (NoPath m j) (Shortest m j)
 
--- a pad that is answered is the cell's by the measuring rule, and none is answered exactly where there is no path
-pub record NearestIs {L : Type 0} (m : Measuring L) (j : ℕ) (answer : Said L) : Type 0 where
+-- a pad that is answered is the cell's by the measuring rule, and none is answered exactly where
+-- there is no path
+pub record NearestIs {L R : Type 0} (m : Measuring L R) (j : ℕ) (answer : Said L) : Type 0 where
   pub is : answer ≡ nearest (pad_of m j)
   pub right : MatchOption (pad_of m j) (NoPath m j) (λ p. (a : L) × Shortest m j a)
 
 -- a way is answered where its list holds it, and else 'short'
-pub record WayIs {L : Type 0} (m : Measuring L) (j room : ℕ) (answer : Said L) : Type 0 where
+pub record WayIs {L R : Type 0} (m : Measuring L R) (j room : ℕ) (answer : Said L) : Type 0 where
   pub behind : List ℕ
   pub right : WayBack m j behind
   pub is : answer ≡ cond (nat_lt room (length (j ∷ behind))) (refused Short) (way (j ∷ behind))
 
 -- the way of a cell to which there is no path has no cells
-pub record NoWay {L : Type 0} (m : Measuring L) (j : ℕ) (answer : Said L) : Type 0 where
+pub record NoWay {L R : Type 0} (m : Measuring L R) (j : ℕ) (answer : Said L) : Type 0 where
   pub none : NoPath m j
   pub is : answer ≡ way []
 
--- a gap that is answered is the least length of a path between the groups, and none is answered exactly where there is none
-pub record GapIs {L : Type 0} (m : Measuring L) (other : ℕ) (answer : Said L) : Type 0 where
+-- a gap that is answered is the least length of a path between the groups, and none is answered
+-- exactly where there is none
+pub record GapIs {L R : Type 0} (m : Measuring L R) (other : ℕ) (answer : Said L) : Type 0 where
   pub found : Option L
   pub is : answer ≡ gap found
   pub right : MatchOption found (NoPathBetween m other) (ShortestBetween m other)
 
--- a cell is marked exactly when it lies on a path between the groups that is as short as any, and the marked ones are counted
-pub record RouteIs {L : Type 0} (m : Measuring L) (other : ℕ) (answer : Said L) : Type 0 where
+-- a cell is marked exactly when it lies on a path between the groups that is as short as any, and
+-- the marked ones are counted
+pub record RouteIs {L R : Type 0} (m : Measuring L R) (other : ℕ) (answer : Said L) : Type 0 where
   pub on : ℕ → Bool
   pub right : (i : ℕ) → i < area m.board.size → Decides (on i) (OnShortest m other i)
-  pub is : answer ≡ route (map (λ i. cond (on i) 1 0) (range_with_len 0 (area m.board.size))) (how_many on (area m.board.size))
+  pub is : answer ≡ route (map (λ i. cond (on i) 1 0) (range_with_len 0 (area m.board.size)))
+      (how_many on (area m.board.size))
 
-module _ {L : Type 0} (kind : Kind L) (gauge : Crossing L) (b : Board) where
+module _ {L R : Type 0} (by : Measurer L R) (b : Board) where
+  -- the board measured from a group
+  abbrev pub measured_by : ℕ → Measuring L R
+  measured_by group = measuring by.kind by.gauge b group
+
   -- a call that is carried out, over the board as it stands
   abbrev pub Answers : RulerCall → Said L → Type 0
-  Answers (Plain (Measure group)) answer = CountsAre (measuring kind gauge b group) answer
-  Answers (Plain (Distance row column group)) answer = DistanceIs (measuring kind gauge b group) (cell_at b.size row column) answer
-  Answers (Plain (Nearest row column group)) answer = NearestIs (measuring kind gauge b group) (cell_at b.size row column) answer
+  Answers (Plain (Measure group)) answer = CountsAre (measured_by group) answer
+  Answers (Plain (Distance row column group)) answer =
+      DistanceIs (measured_by group) (cell_at b.size row column) answer
+  Answers (Plain (Nearest row column group)) answer =
+      NearestIs (measured_by group) (cell_at b.size row column) answer
   Answers (Plain (Way row column group room)) answer =
-      WayIs (measuring kind gauge b group) (cell_at b.size row column) room answer ⊎ NoWay (measuring kind gauge b group) (cell_at b.size row column) answer
-  Answers Gap answer = GapIs (measuring kind gauge b 1) 2 answer
-  Answers (Route room) answer = RouteIs (measuring kind gauge b 1) 2 answer
+      WayIs (measured_by group) (cell_at b.size row column) room answer
+      ⊎ NoWay (measured_by group) (cell_at b.size row column) answer
+  Answers Gap answer = GapIs (measured_by 1) 2 answer
+  Answers (Route room) answer = RouteIs (measured_by 1) 2 answer
   Answers (Plain _) answer = answer ≡ done
 
 -- a call that the state does not allow, one that is sent back, or one that is carried out
@@ -154,11 +134,14 @@ Judged true (Some e) answer right = answer ≡ refused e
 Judged true None answer right = right
 
 -- what is true of an answer, by the calls before it
-abbrev pub Truth : {L : Type 0} → Rooms → Size → Kind L → Crossing L → List (Event L) → RulerCall → Said L → Type 0
-Truth rooms size kind gauge before call answer =
-    Judged (allowed (sealed before) call) (sent_back rooms size (current before) call) answer (Answers kind gauge (ledger size before) call answer)
+abbrev pub Truth : {L R : Type 0} → Rooms → Size → Measurer L R → List (Event L) → RulerCall →
+    Said L → Type 0
+Truth rooms size by before call answer =
+    Judged (allowed (sealed before) call) (sent_back rooms (standing_by size before) call) answer
+    (Answers by (ledger size before) call answer)
 
 -- each answer is true of the plate at that moment
-abbrev pub Truthful : {L : Type 0} → Rooms → Size → Kind L → Crossing L → List (Event L) → Type 0
-Truthful rooms size kind gauge [] = Unit {0}
-Truthful rooms size kind gauge (e ∷ before) = Truthful rooms size kind gauge before × Truth rooms size kind gauge before e.call e.answer
+abbrev pub Truthful : {L R : Type 0} → Rooms → Size → Measurer L R → List (Event L) → Type 0
+Truthful rooms size by [] = Unit {0}
+Truthful rooms size by (e ∷ before) =
+    Truthful rooms size by before × Truth rooms size by before e.call e.answer

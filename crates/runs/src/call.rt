@@ -3,52 +3,51 @@ ghost use Rattle.std.specs.Prelude.{◌≡◌};
 ghost use Rattle.runs.specs.declared.call.RulerCall.{RulerCall};
 ghost use Rattle.runs.specs.declared.call.RulerCall.TheVariants.{Plain};
 
-// A call on an open plate. The figures are those that the call takes, so that bad ones may come; `room` is how many cells the list
-// of a way holds.
+use plate::Edit;
+
+/// A call on an open plate. Any numbers may come: a bad one is sent back with its refusal.
 #[derive(Clone, Copy, Debug, PartialEq, Eq)]
 pub enum Call {
-    Set {
-        row: u16,
-        column: u16,
-        height: u16,
-        pad: u16,
-    },
-    Bar {
-        row: u16,
-        column: u16,
-    },
-    Enrol {
-        pad: u16,
-        group: u16,
-    },
+    /// Changes a cell or a pad's group. Sent back: 2 to 5, as by `plate::Draft::edit`.
+    Edit(Edit),
+    /// Fills the map of group 1 or 2. Sent back: 2 and 5.
     Measure {
         group: u16,
     },
+    /// A cell's length in the map of group 1 or 2. Sent back: 2, 3, 5 and 6.
     Distance {
         row: u16,
         column: u16,
         group: u16,
     },
+    /// A cell's pad in the map of group 1 or 2. Sent back: 2, 3, 5 and 6.
     Nearest {
         row: u16,
         column: u16,
         group: u16,
     },
+    /// The cells from a cell back to its source, in a list that holds `room` cells. Sent back: 2,
+    /// 3, 5 and 6, then 7 where the list is too short, or 8 over a map that was tampered with.
     Way {
         row: u16,
         column: u16,
         group: u16,
         room: usize,
     },
+    /// Seals a draft. Sent back: 6.
     Seal,
+    /// Breaks the seal of a sealed plate. It is never sent back.
     Break,
 }
 
-// A call over a ruler, by which a plate has the gap and the route too; `room` is how many marks are lent to the route.
+/// A call over a ruler, by which a plate has the gap and the route too.
 #[derive(Clone, Copy, Debug, PartialEq, Eq)]
 pub enum RulerCall {
     Plain(Call),
+    /// The least length between the groups. Sent back: 2 and 6.
     Gap,
+    /// The cells of the shortest paths between the groups, over `room` marks, of which each cell of
+    /// the plate wants one. Sent back: 2 and 6.
     Route { room: usize },
 }
 

@@ -1,11 +1,6 @@
 // By what the calls of a run are carried out: a gauge, or a ruler with the gap and the route.
-ghost use Rattle.std.specs.Prelude.{◌≡◌, ◌*◌, Option, length};
-ghost use Rattle.board.specs.Sizes.{area};
-ghost use Rattle.gauges.specs.Meanings.{Crossing};
-ghost use Rattle.runs.specs.Plates.{header_of, state};
-ghost use Rattle.runs.specs.Histories.{measured_now};
-ghost use Rattle.runs.specs.Replies.{cells_told, in_front, marks_told, told_of, within};
-ghost use Rattle.runs.specs.Steps.{QueueLeft, Steps};
+ghost use Rattle.runs.specs.Measurers.{Measurer};
+ghost use Rattle.runs.specs.Replies.{CarriedOut};
 
 use crate::plates::Plate;
 use crate::{Reply, RunCall};
@@ -19,9 +14,7 @@ pub(crate) trait Caller {
 
     type Call: RunCall;
 
-    ghost crossing: { Self → Crossing Self.Length };
-
-    ghost sums: { Self → Option (Self.Length → Self.Length → Self.Length) };
+    ghost measurer: { Self → Measurer Self.Length Self.Length.Row };
 
     fn carry_out(
         &self,
@@ -35,14 +28,7 @@ pub(crate) trait Caller {
         marks: &mut [u8],
         call: Self::Call,
     ) -> (Plate, Reply<Self::Length>)
-        ensures steps { Steps (length entries.old) (state plate cells.old groups.old first.old second.old)
-            (told_of plate result.1 list.new marks.new)
-            (state result.0 cells.new groups.new first.new second.new) Self.Length.kind
-            Self.Length.rows (crossing self.now) (sums self.now)
-            (within (length list.old) (length marks.old) (Self.Call.as_call call)) }
-        ensures queue { QueueLeft (9 * area (header_of plate).size)
-            (measured_now (Self.Call.as_call call) (told_of plate result.1 list.new marks.new))
-            entries.old entries.new }
-        ensures list { list.new ≡ in_front (cells_told result.1 list.new) list.old }
-        ensures marks { marks.new ≡ in_front (marks_told plate result.1 marks.new) marks.old };
+        ensures { CarriedOut (measurer self.now) (Self.Call.as_call call)
+            plate result cells.old cells.new groups.old groups.new first.old first.new
+            second.old second.new entries.old entries.new list.old list.new marks.old marks.new };
 }

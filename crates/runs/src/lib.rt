@@ -24,19 +24,21 @@ pub use running::{run, run_by_ruler};
 pub use space::Space;
 pub use steps::carry_out;
 
-// Over every lawful gauge, whoever makes the calls and whatever the maps held when the plate was opened.
+/// Over every lawful gauge, whoever makes the calls and whatever the maps held when the plate was
+/// opened.
 pub fn calls_tell_the_truth<K: Length>()
-    ensures { GaugeRuns K.Length.kind K.Length.rows }
+    ensures { GaugeRuns K.kind }
 {}
 
-// Over every lawful ruler, with the gap and the route.
+/// Over every lawful ruler, with the gap and the route.
 pub fn ruler_calls_tell_the_truth<K: Length>()
-    ensures { RulerRuns K.Length.kind K.Length.rows }
+    ensures { RulerRuns K.kind }
 {}
 
-// By the four rulers each distance that is answered is the least sum of the step formula over the lists of neighbours that end at its cell,
-// and each gap the least over those between the groups, on the plate at that moment and with no cap reached; none is answered only where
-// there is no such list.
+/// By the four rulers each distance that is answered is the least sum of the step formula over the
+/// lists of neighbours that end at its cell, and each gap the least over those between the groups,
+/// on the plate at that moment and with no cap reached; none is answered only where there is no
+/// such list.
 pub fn answers_are_least_sums()
     ensures { PublishedRuns }
 {}

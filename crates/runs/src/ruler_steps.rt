@@ -1,10 +1,8 @@
 // One call on a plate and its tables over a ruler, by which a plate has the gap and the route too.
-ghost use Rattle.std.specs.Prelude.{◌≡◌, ℕ, ◌*◌, List, Some, length, min};
-ghost use Rattle.board.specs.Sizes.{area};
-ghost use Rattle.runs.specs.Plates.{RulerStep, header_of, state};
-ghost use Rattle.runs.specs.Histories.{measured_now};
-ghost use Rattle.runs.specs.Replies.{cells_counted, cells_told, in_front, marks_told, told, told_of, within};
-ghost use Rattle.runs.specs.Steps.{QueueLeft, Steps};
+ghost use Rattle.std.specs.Prelude.{◌≡◌, ℕ, List, length, min};
+ghost use Rattle.runs.specs.Measurers.{by_ruler};
+ghost use Rattle.runs.specs.Plates.{RulerStep};
+ghost use Rattle.runs.specs.Replies.{CarriedOut, in_front, marks_told, told, told_of};
 ghost use Rattle.runs.specs.declared.call.RulerCall.TheVariants as call;
 
 use crate::callers::Caller;
@@ -21,7 +19,7 @@ fn gap<R: Ruler>(
     first: &[MapRecord<RowOf<R>>],
     second: &[MapRecord<RowOf<R>>],
 ) -> Reply<R::Length>
-    ensures { (list marks : List ℕ) → RulerStep R.Length.kind R.Length.rows (R.Ruler.ruling ruler.now).sum
+    ensures { (list marks : List ℕ) → RulerStep R.Length.kind (R.ruling ruler.now).sum
         call.Gap (told result list marks) plate.now first.now second.now }
 {
     match plate.gap(ruler, first, second) {
@@ -30,7 +28,8 @@ fn gap<R: Ruler>(
     }
 }
 
-// The marks go into the front of those that are lent, as far as their number and the call's room allow.
+// The marks go into the front of those that are lent, as far as their number and the call's room
+// allow.
 fn route<R: Ruler>(
     ruler: &R,
     plate: &Plate,
@@ -39,7 +38,7 @@ fn route<R: Ruler>(
     marks: &mut [u8],
     room: usize,
 ) -> Reply<R::Length>
-    ensures steps { (list : List ℕ) → RulerStep R.Length.kind R.Length.rows (R.Ruler.ruling ruler.now).sum
+    ensures step { (list : List ℕ) → RulerStep R.Length.kind (R.ruling ruler.now).sum
         (call.Route (min room (length marks.old))) (told_of plate.now result list marks.new)
         plate.now first.now second.now }
     ensures marks { marks.new ≡ in_front (marks_told plate.now result marks.new) marks.old }
@@ -51,8 +50,9 @@ fn route<R: Ruler>(
     }
 }
 
-/// One call by a ruler, with the gap and the route among them, over marks that are lent to a route, which has the call's room or as many as
-/// there are, whichever is less; else as `carry_out`.
+/// One call by a ruler, with the gap and the route among them, over marks that are lent to a route:
+/// it has as many of them as the call's room says, or all where those are fewer. Else as
+/// `carry_out`.
 pub fn carry_out_by_ruler<R: Ruler>(
     ruler: &R,
     plate: Plate,
@@ -65,16 +65,10 @@ pub fn carry_out_by_ruler<R: Ruler>(
     marks: &mut [u8],
     call: RulerCall,
 ) -> (Plate, Reply<R::Length>)
-    ensures steps { Steps (length entries.old) (state plate cells.old groups.old first.old second.old)
-        (told_of plate result.1 list.new marks.new)
-        (state result.0 cells.new groups.new first.new second.new) R.Length.kind R.Length.rows
-        (R.Gauge.crossing ruler.now) (Some (R.Ruler.ruling ruler.now).sum)
-        (within (length list.old) (length marks.old) call) }
-    ensures queue { QueueLeft (9 * area (header_of plate).size)
-        (measured_now call (told_of plate result.1 list.new marks.new)) entries.old entries.new }
-    ensures list { list.new ≡ in_front (cells_told result.1 list.new) list.old }
-    ensures count { cells_counted result.1 ≡ length (cells_told result.1 list.new) }
-    ensures marks { marks.new ≡ in_front (marks_told plate result.1 marks.new) marks.old }
+    ensures { CarriedOut
+        (by_ruler R.Length.kind (R.crossing ruler.now) (R.ruling ruler.now).sum) call
+        plate result cells.old cells.new groups.old groups.new first.old first.new
+        second.old second.new entries.old entries.new list.old list.new marks.old marks.new }
 {
     match call {
         RulerCall::Plain(call) => carry_out(
@@ -102,9 +96,8 @@ impl<R: Ruler> Caller for ByRuler<'_, R> {
 
     type Call = RulerCall;
 
-    ghost crossing = { λ by. R.Gauge.crossing by.ruler.now };
-
-    ghost sums = { λ by. Some (R.Ruler.ruling by.ruler.now).sum };
+    ghost measurer = { λ by.
+        by_ruler R.Length.kind (R.crossing by.ruler.now) (R.ruling by.ruler.now).sum };
 
     fn carry_out(
         &self,

@@ -1,24 +1,24 @@
 // A list of calls on a plate just opened, in memory that was taken for them.
-ghost use Rattle.std.specs.Prelude.{◌≡◌, ◌*◌, Some, None, MatchResult, false, length, map, take};
-ghost use Rattle.board.specs.Sizes.{area, bad_size};
-ghost use Rattle.runs.specs.Histories.{measured_now};
-ghost use Rattle.runs.specs.Places.{PlacesFor, list_of, marks_of};
+ghost use Rattle.std.specs.Prelude.{◌≡◌, map, take};
+ghost use Rattle.board.specs.Sizes.{area};
+ghost use Rattle.runs.specs.Measurers.{by_gauge, by_ruler};
+ghost use Rattle.runs.specs.Places.{PlacesFor, list_of, marks_of, within_place};
 ghost use Rattle.runs.specs.Plates.{header_of, state};
-ghost use Rattle.runs.specs.Replies.{told, within};
-ghost use Rattle.runs.specs.Runs.{Answered, LeadsTo, Leaves, Ran, holding, opening_back, rooms, rooms_held};
+ghost use Rattle.runs.specs.Replies.{told};
+ghost use Rattle.runs.specs.Runs.{LeadsTo, Ran, RanTo, held, holding, left, said_all};
 ghost use Rattle.runs.specs.Said.{said};
-ghost use Rattle.runs.specs.Steps.{QueueLeft, Steps};
+ghost use Rattle.runs.specs.Steps.{Steps};
 ghost use Rattle.runs.specs.declared.call.RulerCall.TheVariants.{Plain};
 
 use crate::callers::Caller;
 use crate::ruler_steps::ByRuler;
 use crate::steps::ByGauge;
 use crate::{Answer, Call, Plate, Reply, RulerCall, Space, Tables};
-use board::{Cell, MapRecord, Refusal};
+use board::{Cell, MapRecord};
 use gauges::{Gauge, Ruler};
 use lengths::Length;
 use measuring::RowOf;
-use plate::Draft;
+use plate::{Draft, Refusal};
 use queue::Offer;
 use std::alloc::Global;
 use std::mem::replace;
@@ -35,7 +35,8 @@ fn emptied<K: Length>(alloc: Global, place: Answer<K>) -> (Vec<u16>, Vec<u8>)
     }
 }
 
-// A reply as an answer, with the cells or the marks that were written, of which a route has one for each cell of the plate.
+// A reply as an answer, with the cells or the marks that were written, of which a route has one for
+// each cell of the plate.
 fn answer_of<K: Length>(area: usize, reply: Reply<K>, list: Vec<u16>, marks: Vec<u8>) -> Answer<K>
     ensures { said result ≡ told reply list.items (take area marks.items) }
 {
@@ -73,12 +74,9 @@ fn answer_one<C: Caller>(
     call: C::Call,
     place: Answer<C::Length>,
 ) -> (Plate, Answer<C::Length>)
-    ensures steps { Steps (length entries.old) (state plate cells.old groups.old first.old second.old)
-        (said result.1) (state result.0 cells.new groups.new first.new second.new) C.Length.kind
-        C.Length.rows (C.Caller.crossing caller.now) (C.Caller.sums caller.now)
-        (within (length (list_of place)) (length (marks_of place)) (C.Call.as_call call)) }
-    ensures queue { QueueLeft (9 * area (header_of plate).size)
-        (measured_now (C.Call.as_call call) (said result.1)) entries.old entries.new }
+    ensures { Steps (C.measurer caller.now) (within_place place (C.Call.as_call call))
+        (said result.1) (state plate cells.old groups.old first.old second.old entries.old)
+        (state result.0 cells.new groups.new first.new second.new entries.new) }
 {
     let area = plate.area();
     let (mut list, mut marks) = emptied(alloc, place);
@@ -101,11 +99,10 @@ fn answer_all<C: Caller>(
     calls: &[C::Call],
     places: &mut [Answer<C::Length>],
 )
-    requires long { length places.old ≡ length calls.now }
-    requires fit { PlacesFor C.Call.as_call (area (header_of plate).size) calls.now places.old }
-    ensures { LeadsTo C.Length.kind C.Length.rows (C.Caller.crossing caller.now)
-        (C.Caller.sums caller.now) (state plate cells.old groups.old first.old second.old)
-        entries.old (map C.Call.as_call calls.now) (map said places.new)
+    requires { PlacesFor C.Call.as_call (area (header_of plate).size) calls.now places.old }
+    ensures { LeadsTo (C.measurer caller.now)
+        (state plate cells.old groups.old first.old second.old entries.old)
+        (map C.Call.as_call calls.now) (map said places.new)
         (holding cells.new groups.new first.new second.new entries.new) }
 {
     let mut plate = plate;
@@ -119,33 +116,29 @@ fn answer_all<C: Caller>(
     }
 }
 
-// Opens a plate and makes the calls in their places.
-fn open_and_answer<C: Caller>(
-    alloc: Global,
+// Opens a plate and makes the calls of a space in their places, by what carries them out.
+fn run_in_space<C: Caller>(
     caller: &C,
-    rows: u16,
-    columns: u16,
+    space: Space<'_, C::Call, C::Length>,
     cells: &mut [Cell],
     groups: &mut [u8],
     first: &mut [MapRecord<<C::Length as Length>::Row>],
     second: &mut [MapRecord<<C::Length as Length>::Row>],
     entries: &mut [Offer<<C::Length as Length>::Row>],
-    calls: &[C::Call],
-    places: &mut [Answer<C::Length>],
-) -> Result<(), Refusal>
-    requires long { bad_size rows columns ≡ false → length places.old ≡ length calls.now }
-    requires fit { bad_size rows columns ≡ false → PlacesFor C.Call.as_call (rows * columns) calls.now
-        places.old }
-    ensures { let held = holding cells.old groups.old first.old second.old entries.old in
-        let left = holding cells.new groups.new first.new second.new entries.new in
-        MatchResult result
-        (λ _.
-        Ran rows columns C.Length.kind C.Length.rows (C.Caller.crossing caller.now)
-        (C.Caller.sums caller.now) (map C.Call.as_call calls.now) (map said places.new)
-        held left)
-        (λ e. (opening_back (rooms_held held) rows columns ≡ Some e) × (left ≡ held)) }
+) -> Result<Vec<Answer<C::Length>>, Refusal>
+    ensures { RanTo space.entry.dimensions (C.measurer caller.now)
+        (map C.Call.as_call space.entry.calls.now)
+        (holding cells.old groups.old first.old second.old entries.old)
+        (holding cells.new groups.new first.new second.new entries.new) (said_all result) }
 {
-    let draft = Draft::open(rows, columns, cells, groups)?;
+    let Space {
+        dimensions,
+        calls,
+        alloc,
+        places,
+    } = space;
+    let draft = Draft::open(dimensions, cells, groups)?;
+    let mut answers = places;
     answer_all(
         alloc,
         caller,
@@ -156,82 +149,24 @@ fn open_and_answer<C: Caller>(
         second,
         entries,
         calls,
-        places,
-    );
-    Ok(())
-}
-
-// The calls of a space, by what carries them out.
-fn run_in_space<C: Caller>(
-    caller: &C,
-    space: Space<'_, C::Call, C::Length>,
-    cells: &mut [Cell],
-    groups: &mut [u8],
-    first: &mut [MapRecord<<C::Length as Length>::Row>],
-    second: &mut [MapRecord<<C::Length as Length>::Row>],
-    entries: &mut [Offer<<C::Length as Length>::Row>],
-) -> Result<Vec<Answer<C::Length>>, Refusal>
-    ensures { let held = holding cells.old groups.old first.old second.old entries.old in
-        let left = holding cells.new groups.new first.new second.new entries.new in
-        MatchResult result
-        (λ answers.
-        Ran space.entry.rows space.entry.columns C.Length.kind C.Length.rows
-        (C.Caller.crossing caller.now) (C.Caller.sums caller.now)
-        (map C.Call.as_call space.entry.calls.now) (map said answers.items) held left)
-        (λ e.
-        (opening_back (rooms_held held) space.entry.rows space.entry.columns ≡ Some e) ×
-        (left ≡ held)) }
-{
-    let Space {
-        rows,
-        columns,
-        calls,
-        alloc,
-        places,
-    } = space;
-    let mut answers = places;
-    open_and_answer(
-        alloc,
-        caller,
-        rows,
-        columns,
-        cells,
-        groups,
-        first,
-        second,
-        entries,
-        calls,
         &mut answers,
-    )?;
+    );
     Ok(answers)
 }
 
-/// Opens a plate over tables of any lengths and any content, and makes the calls of a space one after another by a gauge. Each answer is true
-/// of the plate at that moment, and the refusal to open the plate, 1 or 2, is the one thing that keeps answers back. The tables hold afterwards
-/// what the calls made of them, and what they held where the plate is not opened. Nothing is allocated.
+/// Opens a plate over tables of any lengths and any content, and makes the calls of a space one
+/// after another by a gauge. Each answer is true of the plate at that moment, and the refusal to
+/// open the plate, 1 or 2, is the one thing that keeps answers back. The tables hold afterwards
+/// what the calls made of them, and what they held where the plate is not opened. Nothing is
+/// allocated.
 pub fn run<G: Gauge>(
     gauge: &G,
     space: Space<'_, Call, G::Length>,
     tables: Tables<'_, RowOf<G>>,
 ) -> Result<Vec<Answer<G::Length>>, Refusal>
-    ensures answers { let lent = rooms tables.entry.cells.now tables.entry.groups.now tables.entry.first.now
-        tables.entry.second.now tables.entry.entries.now in
-        MatchResult result
-        (λ answers.
-        Answered lent space.entry.rows space.entry.columns G.Length.kind
-        (G.Gauge.crossing gauge.now) (map Plain space.entry.calls.now)
-        (map said answers.items))
-        (λ e. opening_back lent space.entry.rows space.entry.columns ≡ Some e) }
-    ensures tables { let held = holding tables.entry.cells.now tables.entry.groups.now tables.entry.first.now
-        tables.entry.second.now tables.entry.entries.now in
-        let left = holding tables.exit.0.now tables.exit.1.0.now tables.exit.1.1.0.now
-        tables.exit.1.1.1.0.now tables.exit.1.1.1.1.0.now in
-        MatchResult result
-        (λ answers.
-        Leaves space.entry.rows space.entry.columns G.Length.kind G.Length.rows
-        (G.Gauge.crossing gauge.now) None (map Plain space.entry.calls.now)
-        (map said answers.items) held left)
-        (λ _. left ≡ held) }
+    ensures { Ran space.entry.dimensions (by_gauge G.Length.kind (G.crossing gauge.now))
+        (map Plain space.entry.calls.now) (held tables.entry) (left tables.exit)
+        (said_all result) }
 {
     let Tables {
         cells,
@@ -257,23 +192,9 @@ pub fn run_by_ruler<R: Ruler>(
     space: Space<'_, RulerCall, R::Length>,
     tables: Tables<'_, RowOf<R>>,
 ) -> Result<Vec<Answer<R::Length>>, Refusal>
-    ensures answers { let lent = rooms tables.entry.cells.now tables.entry.groups.now tables.entry.first.now
-        tables.entry.second.now tables.entry.entries.now in
-        MatchResult result
-        (λ answers.
-        Answered lent space.entry.rows space.entry.columns R.Length.kind
-        (R.Gauge.crossing ruler.now) space.entry.calls.now (map said answers.items))
-        (λ e. opening_back lent space.entry.rows space.entry.columns ≡ Some e) }
-    ensures tables { let held = holding tables.entry.cells.now tables.entry.groups.now tables.entry.first.now
-        tables.entry.second.now tables.entry.entries.now in
-        let left = holding tables.exit.0.now tables.exit.1.0.now tables.exit.1.1.0.now
-        tables.exit.1.1.1.0.now tables.exit.1.1.1.1.0.now in
-        MatchResult result
-        (λ answers.
-        Leaves space.entry.rows space.entry.columns R.Length.kind R.Length.rows
-        (R.Gauge.crossing ruler.now) (Some (R.Ruler.ruling ruler.now).sum)
-        space.entry.calls.now (map said answers.items) held left)
-        (λ _. left ≡ held) }
+    ensures { Ran space.entry.dimensions
+        (by_ruler R.Length.kind (R.crossing ruler.now) (R.ruling ruler.now).sum)
+        space.entry.calls.now (held tables.entry) (left tables.exit) (said_all result) }
 {
     let Tables {
         cells,

@@ -1,26 +1,26 @@
 // The memory of a run, taken before its plate is opened.
-ghost use Rattle.std.specs.Prelude.{◌≡◌, ◌*◌, [], false, true, length, IfOk, IsOk};
+ghost use Rattle.std.specs.Prelude.{◌≡◌, true, length, IfOk, IsOk};
 ghost use Rattle.board.specs.Sizes.{bad_size};
-ghost use Rattle.runs.specs.Places.{PlaceFor, PlacesFor};
+ghost use Rattle.runs.specs.Places.{PlaceFor, PlacesFor, PlacesOn};
 
 use crate::{Answer, Call, RulerCall, RunCall};
-use board::Size;
+use board::{Dimensions, Size};
 use lengths::Length;
 use std::alloc::{AllocError, Global};
 
-/// The memory of a run of these calls on a plate of this size: a place for each answer, with the list of a way or the marks of a route in it.
-/// It has as many cells or marks as the call asks for, or as the plate has cells where those are fewer. For a size that no plate has there
-/// are no places.
+/// The memory of a run of these calls on a plate of these dimensions: a place for each answer, with
+/// the list of a way or the marks of a route in it. It has as many cells or marks as the call asks
+/// for, or as the plate has cells where those are fewer. For dimensions that no plate has there are
+/// no places.
 #[derive(Drop)]
 pub struct Space<'a, C: RunCall, K> {
-    pub rows: u16,
-    pub columns: u16,
+    /// Of the plate that the run is to open.
+    pub dimensions: Dimensions,
+    /// What it is to be asked, in this order.
     pub calls: &'a [C],
     pub(crate) alloc: Global,
     pub(crate) places: Vec<Answer<K>>,
-    ghost none: { bad_size rows columns ≡ true → places.items ≡ [] },
-    ghost long: { bad_size rows columns ≡ false → length places.items ≡ length calls.now },
-    ghost fit: { bad_size rows columns ≡ false → PlacesFor C.as_call (rows * columns) calls.now places.items },
+    ghost fit: { PlacesOn C.as_call dimensions calls.now places.items },
 }
 
 // A place for the answer to a call, on a plate of so many cells.
@@ -40,13 +40,12 @@ fn place<K: Length>(alloc: Global, area: usize, call: RulerCall) -> Result<Answe
     }
 }
 
-// A place for each call.
+// A place for each call, on a plate of so many cells.
 fn places<C: RunCall, K: Length>(
     alloc: Global,
     area: usize,
     calls: &[C],
 ) -> Result<Vec<Answer<K>>, AllocError>
-    ensures long { IfOk result (λ places. length places.items ≡ length calls.now) }
     ensures fit { IfOk result (λ places. PlacesFor C.as_call area calls.now places.items) }
     ensures succeeds { length calls.now ≡ 0 → IsOk result }
 {
@@ -58,46 +57,39 @@ fn places<C: RunCall, K: Length>(
     Ok(places)
 }
 
-// The places on a plate of this size; none where no plate has it.
-fn places_of<C: RunCall, K: Length>(
+// The places on a plate of these dimensions; none where no plate has them.
+fn places_on<C: RunCall, K: Length>(
     alloc: Global,
-    rows: u16,
-    columns: u16,
+    dimensions: Dimensions,
     calls: &[C],
 ) -> Result<Vec<Answer<K>>, AllocError>
-    ensures none { IfOk result (λ places. bad_size rows columns ≡ true → places.items ≡ []) }
-    ensures long { IfOk result
-        (λ places. bad_size rows columns ≡ false → length places.items ≡ length calls.now) }
-    ensures fit { IfOk result
-        (λ places. bad_size rows columns ≡ false → PlacesFor C.as_call (rows * columns) calls.now places.items) }
+    ensures fit { IfOk result (λ places. PlacesOn C.as_call dimensions calls.now places.items) }
     ensures no_call { length calls.now ≡ 0 → IsOk result }
-    ensures no_plate { bad_size rows columns ≡ true → IsOk result }
+    ensures no_plate { bad_size dimensions ≡ true → IsOk result }
 {
-    let Ok(size) = Size::new(rows, columns) else {
+    let Some(size) = Size::new(dimensions) else {
         return Ok(Vec::new(alloc));
     };
     places(alloc, size.area(), calls)
 }
 
 impl<'a, C: RunCall, K: Length> Space<'a, C, K> {
-    /// Takes the memory. It is lent no table, so that nothing has happened where memory is short, which is its only error. Where there is nothing
-    /// to make, no call or a size that no plate has, it succeeds.
+    /// Takes the memory. It is lent no table, so that nothing has happened where memory is short,
+    /// which is its only error. Where there is nothing to make, no call or dimensions that no plate
+    /// has, it succeeds.
     pub fn reserve(
         alloc: Global,
-        rows: u16,
-        columns: u16,
+        dimensions: Dimensions,
         calls: &'a [C],
     ) -> Result<Space<'a, C, K>, AllocError>
-        ensures rows { IfOk result (λ space. space.rows ≡ rows) }
-        ensures columns { IfOk result (λ space. space.columns ≡ columns) }
+        ensures dimensions { IfOk result (λ space. space.dimensions ≡ dimensions) }
         ensures calls { IfOk result (λ space. space.calls.now ≡ calls.now) }
         ensures no_call { length calls.now ≡ 0 → IsOk result }
-        ensures no_plate { bad_size rows columns ≡ true → IsOk result }
+        ensures no_plate { bad_size dimensions ≡ true → IsOk result }
     {
-        let places = places_of(alloc, rows, columns, calls)?;
+        let places = places_on(alloc, dimensions, calls)?;
         Ok(Space {
-            rows,
-            columns,
+            dimensions,
             calls,
             alloc,
             places,

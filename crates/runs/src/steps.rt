@@ -1,33 +1,22 @@
 // One call on a plate and its tables, by the plate's own call.
-ghost use Rattle.std.specs.Prelude.{◌≡◌, ℕ, ◌*◌, List, [], Option, None, cond, ◌==◌, length, min};
-ghost use Rattle.board.specs.Sizes.{area};
+ghost use Rattle.std.specs.Prelude.{◌≡◌, ℕ, List, [], cond, ◌==◌, length, min};
 ghost use Rattle.board.specs.declared.record.MapRecord.{MapRecord as TheRecord};
-ghost use Rattle.runs.specs.Plates.{OnCells, OnGroups, OnMaps, header_of, state};
-ghost use Rattle.runs.specs.Histories.{measured_now};
-ghost use Rattle.runs.specs.Replies.{cells_counted, cells_told, in_front, told, way_within};
-ghost use Rattle.runs.specs.Said.Said.{done, measured, distance, nearest};
-ghost use Rattle.runs.specs.Steps.{QueueLeft, Steps, telling};
+ghost use Rattle.runs.specs.Measurers.{by_gauge};
+ghost use Rattle.runs.specs.Plates.{OnBoard, OnMaps, OnTables};
+ghost use Rattle.runs.specs.Replies.{CarriedOut, ListLeft, told};
+ghost use Rattle.runs.specs.Said.Said.{measured};
+ghost use Rattle.runs.specs.Steps.{telling};
 ghost use Rattle.runs.specs.declared.call.Call.TheVariants as call;
 ghost use Rattle.runs.specs.declared.call.RulerCall.TheVariants.{Plain};
 
 use crate::callers::Caller;
 use crate::{Call, Plate, Reply};
-use board::{Cell, MapRecord, Refusal};
+use board::{Cell, MapRecord};
 use gauges::Gauge;
 use lengths::Length;
 use measuring::{Counts, RowOf};
-use plate::Readings;
+use plate::{Edit, Readings, Refusal};
 use queue::Offer;
-
-// What a call answered that has nothing else to say.
-fn reply_edit<K>(outcome: Result<(), Refusal>) -> Reply<K>
-    ensures { (list marks : List ℕ) → told result list marks ≡ telling (λ x. done) outcome }
-{
-    match outcome {
-        Ok(()) => Reply::Done,
-        Err(refusal) => Reply::Refused(refusal),
-    }
-}
 
 // The map that is lent for a group: the first for group 1, and the second for any other number.
 fn map_of<'a, Row>(
@@ -40,39 +29,15 @@ fn map_of<'a, Row>(
     if group == 1 { first } else { second }
 }
 
-fn set<K: Length>(
-    plate: &mut Plate,
-    cells: &mut [Cell],
-    row: u16,
-    column: u16,
-    height: u16,
-    pad: u16,
-) -> Reply<K>
-    ensures { (list marks : List ℕ) → OnCells K.Length.kind K.Length.rows (call.Set row column height pad)
-        (told result list marks) plate.old plate.new cells.old cells.new }
+fn edit<K: Length>(plate: &mut Plate, cells: &mut [Cell], groups: &mut [u8], edit: Edit) -> Reply<K>
+    ensures { (list marks : List ℕ) → OnBoard K.kind (call.Edit edit) (told result list marks)
+        plate.old plate.new cells.old cells.new groups.old groups.new }
 {
     match plate {
-        Plate::Draft(draft) => reply_edit(draft.set(cells, row, column, height, pad)),
-        Plate::Sealed(_) => Reply::NotAllowed,
-    }
-}
-
-fn bar<K: Length>(plate: &mut Plate, cells: &mut [Cell], row: u16, column: u16) -> Reply<K>
-    ensures { (list marks : List ℕ) → OnCells K.Length.kind K.Length.rows (call.Bar row column)
-        (told result list marks) plate.old plate.new cells.old cells.new }
-{
-    match plate {
-        Plate::Draft(draft) => reply_edit(draft.bar(cells, row, column)),
-        Plate::Sealed(_) => Reply::NotAllowed,
-    }
-}
-
-fn enrol<K: Length>(plate: &mut Plate, groups: &mut [u8], pad: u16, group: u16) -> Reply<K>
-    ensures { (list marks : List ℕ) → OnGroups K.Length.kind K.Length.rows (call.Enrol pad group)
-        (told result list marks) plate.old plate.new groups.old groups.new }
-{
-    match plate {
-        Plate::Draft(draft) => reply_edit(draft.enrol(groups, pad, group)),
+        Plate::Draft(draft) => match draft.edit(cells, groups, edit) {
+            Ok(()) => Reply::Done,
+            Err(refusal) => Reply::Refused(refusal),
+        },
         Plate::Sealed(_) => Reply::NotAllowed,
     }
 }
@@ -96,14 +61,9 @@ fn measure<G: Gauge>(
     entries: &mut [Offer<RowOf<G>>],
     group: u16,
 ) -> Reply<G::Length>
-    ensures steps { (list marks : List ℕ) (sums : Option (G.Length → G.Length → G.Length)) → Steps
-        (length entries.old) (state plate.old cells.now groups.now first.old second.old)
-        (told result list marks) (state plate.new cells.now groups.now first.new second.new)
-        G.Length.kind G.Length.rows (G.Gauge.crossing gauge.now) sums
-        (Plain (call.Measure group)) }
-    ensures queue { (list marks : List ℕ) → QueueLeft (9 * area (header_of plate.old).size)
-        (measured_now (Plain (call.Measure group)) (told result list marks)) entries.old
-        entries.new }
+    ensures { (list marks : List ℕ) → OnTables G.Length.kind (G.crossing gauge.now)
+        (call.Measure group) (told result list marks) plate.old plate.new cells.now groups.now
+        first.old first.new second.old second.new entries.old entries.new }
 {
     let Plate::Draft(draft) = plate else {
         return Reply::NotAllowed;
@@ -122,7 +82,7 @@ fn distance<K: Length>(
     column: u16,
     group: u16,
 ) -> Reply<K>
-    ensures { (list marks : List ℕ) → OnMaps K.Length.kind K.Length.rows (call.Distance row column group)
+    ensures { (list marks : List ℕ) → OnMaps K.kind (call.Distance row column group)
         (told result list marks) plate.now plate.now first.now second.now }
 {
     match plate.distance::<K>(map_of(first, second, group), row, column, group) {
@@ -139,7 +99,7 @@ fn nearest<K: Length>(
     column: u16,
     group: u16,
 ) -> Reply<K>
-    ensures { (list marks : List ℕ) → OnMaps K.Length.kind K.Length.rows (call.Nearest row column group)
+    ensures { (list marks : List ℕ) → OnMaps K.kind (call.Nearest row column group)
         (told result list marks) plate.now plate.now first.now second.now }
 {
     match plate.nearest::<K>(map_of(first, second, group), row, column, group) {
@@ -159,11 +119,10 @@ fn way<K: Length>(
     group: u16,
     room: usize,
 ) -> Reply<K>
-    ensures steps { (marks : List ℕ) → OnMaps K.Length.kind K.Length.rows
-        (call.Way row column group (min room (length list.old))) (told result list.new marks)
-        plate.now plate.now first.now second.now }
-    ensures list { list.new ≡ in_front (cells_told result list.new) list.old }
-    ensures count { cells_counted result ≡ length (cells_told result list.new) }
+    ensures step { (marks : List ℕ) → OnMaps K.kind
+        (call.Way row column group (min room (length list.old)))
+        (told result list.new marks) plate.now plate.now first.now second.now }
+    ensures list { ListLeft result list.old list.new }
 {
     let lent = room.min(list.len());
     let map = map_of(first, second, group);
@@ -174,8 +133,8 @@ fn way<K: Length>(
 }
 
 fn seal<K: Length>(plate: Plate) -> (Plate, Reply<K>)
-    ensures { (list marks : List ℕ) (first second : List (TheRecord K.Row)) → OnMaps K.Length.kind
-        K.Length.rows call.Seal (told result.1 list marks) plate result.0 first second }
+    ensures { (list marks : List ℕ) (first second : List (TheRecord K.Row)) →
+        OnMaps K.kind call.Seal (told result.1 list marks) plate result.0 first second }
 {
     match plate {
         Plate::Draft(draft) => match draft.seal() {
@@ -187,8 +146,8 @@ fn seal<K: Length>(plate: Plate) -> (Plate, Reply<K>)
 }
 
 fn break_seal<K: Length>(plate: Plate) -> (Plate, Reply<K>)
-    ensures { (list marks : List ℕ) (first second : List (TheRecord K.Row)) → OnMaps K.Length.kind
-        K.Length.rows call.Break (told result.1 list marks) plate result.0 first second }
+    ensures { (list marks : List ℕ) (first second : List (TheRecord K.Row)) →
+        OnMaps K.kind call.Break (told result.1 list marks) plate result.0 first second }
 {
     match plate {
         Plate::Sealed(sealed) => (Plate::Draft(sealed.break_seal()), Reply::Done),
@@ -196,8 +155,11 @@ fn break_seal<K: Length>(plate: Plate) -> (Plate, Reply<K>)
     }
 }
 
-/// One call on a plate in either state, over lent tables and the list that is lent to a way: its step, which says what it answers and leaves.
-/// A way has the call's room or the length of the list, whichever is less. Nothing is allocated, and every call is answered.
+/// One call on a plate in either state, over lent tables of any lengths and any content, and a list
+/// that is lent to a way: its step, which says what it answers and leaves. A way has as many cells
+/// of the list as the call's room says, or all where those are fewer. Nothing is allocated, and
+/// every call is answered: with its result, its refusal, or that the plate's state does not allow
+/// it.
 pub fn carry_out<G: Gauge>(
     gauge: &G,
     plate: Plate,
@@ -209,25 +171,13 @@ pub fn carry_out<G: Gauge>(
     list: &mut [u16],
     call: Call,
 ) -> (Plate, Reply<G::Length>)
-    ensures steps { Steps (length entries.old) (state plate cells.old groups.old first.old second.old)
-        (told result.1 list.new []) (state result.0 cells.new groups.new first.new second.new)
-        G.Length.kind G.Length.rows (G.Gauge.crossing gauge.now) None
-        (Plain (way_within (length list.old) call)) }
-    ensures queue { QueueLeft (9 * area (header_of plate).size)
-        (measured_now (Plain call) (told result.1 list.new [])) entries.old entries.new }
-    ensures list { list.new ≡ in_front (cells_told result.1 list.new) list.old }
-    ensures count { cells_counted result.1 ≡ length (cells_told result.1 list.new) }
+    ensures { CarriedOut (by_gauge G.Length.kind (G.crossing gauge.now)) (Plain call)
+        plate result cells.old cells.new groups.old groups.new first.old first.new
+        second.old second.new entries.old entries.new list.old list.new [] [] }
 {
     let mut plate = plate;
     let reply = match call {
-        Call::Set {
-            row,
-            column,
-            height,
-            pad,
-        } => set(&mut plate, cells, row, column, height, pad),
-        Call::Bar { row, column } => bar(&mut plate, cells, row, column),
-        Call::Enrol { pad, group } => enrol(&mut plate, groups, pad, group),
+        Call::Edit(asked) => edit(&mut plate, cells, groups, asked),
         Call::Measure { group } => measure(
             gauge, &mut plate, cells, groups, first, second, entries, group,
         ),
@@ -260,9 +210,7 @@ impl<G: Gauge> Caller for ByGauge<'_, G> {
 
     type Call = Call;
 
-    ghost crossing = { λ by. G.Gauge.crossing by.gauge.now };
-
-    ghost sums = { λ _. None };
+    ghost measurer = { λ by. by_gauge G.Length.kind (G.crossing by.gauge.now) };
 
     fn carry_out(
         &self,

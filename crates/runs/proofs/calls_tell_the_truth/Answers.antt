@@ -3,4 +3,4 @@ use Rattle.runs.proofs.Laws.{gauge_runs}
 use Rattle.runs.proofs.calls_tell_the_truth.Goals as goal
 
 pub returns : goal.returns
-returns g c = gauge_runs g.K.Length.kind g.K.Length.rows g.met.K.Length.lawful
+returns g c = gauge_runs g.met.K.Length.lawful
