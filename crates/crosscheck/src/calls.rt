@@ -2,11 +2,11 @@
 // an accepted edit writes.
 use crate::compare::differ;
 use crate::dice::Dice;
-use board::{Cell, MapRecord, Refusal};
+use board::{Cell, Dimensions, MapRecord};
 use ending::Stop;
 use gauges::{Chessboard, Rectangle, Rectangles, ThreeFour, Weighting, WholeRuler};
 use lengths::Whole;
-use plate::{Draft, Readings};
+use plate::{Draft, Readings, Refusal};
 use queue::Offer;
 
 // The tables have room for 12 cells and some more, which lets them be lent short or long.
@@ -14,6 +14,14 @@ const ROOM: usize = 14;
 
 // The number of a refusal, or 0.
 fn answer<T: Drop>(outcome: Result<T, Refusal>) -> u8 {
+    match outcome {
+        Ok(_) => 0,
+        Err(refusal) => refusal.number(),
+    }
+}
+
+// Likewise of a setting.
+fn set<T: Drop>(outcome: Result<T, gauges::Refusal>) -> u8 {
     match outcome {
         Ok(_) => 0,
         Err(refusal) => refusal.number(),
@@ -213,7 +221,7 @@ impl Plate {
         let group = some_group(dice);
         let short = cells < area || groups < 64 || map < area || entries < area.saturating_mul(9);
         let expected = smallest(&[(short, 2), (group == 0 || group > 2, 5)]);
-        let ruler = WholeRuler(Chessboard);
+        let ruler = WholeRuler::new(Chessboard);
         let (known, bytes) = (self.cells, self.groups);
         let mut table = if group == 2 { self.second } else { self.first };
         let mut queue = self.entries;
@@ -292,7 +300,7 @@ impl Plate {
         let outdated = !self.current[0] || !self.current[1];
         let short = first < area || second < area;
         let expected = smallest(&[(short, 2), (outdated, 6)]);
-        let ruler = WholeRuler(Chessboard);
+        let ruler = WholeRuler::new(Chessboard);
         let gap = answer(
             self.draft
                 .gap(&ruler, &self.first[..first], &self.second[..second]),
@@ -365,7 +373,11 @@ fn run_plate(dice: &mut Dice, calls: u64) -> u64 {
     let (room, bytes) = (lent(dice, area, ROOM).min(ROOM), lent(dice, 64, 66).min(66));
     let bad = rows == 0 || rows > 256 || columns == 0 || columns > 256;
     let expected = smallest(&[(bad, 1), (room < area || bytes < 64, 2)]);
-    let found = Draft::open(rows, columns, &mut cells[..room], &mut groups[..bytes]);
+    let found = Draft::open(
+        Dimensions { rows, columns },
+        &mut cells[..room],
+        &mut groups[..bytes],
+    );
     let Ok(draft) = found else {
         return differ(answer(found) == expected && (cells, groups) == tables());
     };
@@ -381,7 +393,11 @@ fn run_plate(dice: &mut Dice, calls: u64) -> u64 {
 fn mistaken_in(kind: Kind) -> u64 {
     let mut dice = Dice::new(1);
     let (mut cells, mut groups) = tables();
-    let Ok(draft) = Draft::open(1, 1, &mut cells, &mut groups) else {
+    let one = Dimensions {
+        rows: 1,
+        columns: 1,
+    };
+    let Ok(draft) = Draft::open(one, &mut cells, &mut groups) else {
         return 0;
     };
     let mut plate = Plate::new(draft, 2, 1, cells, groups);
@@ -418,7 +434,7 @@ fn try_rectangle(rectangles: &mut Rectangles, added: usize, figures: [u16; 4]) -
     let [first_row, first_column, last_row, last_column] = figures;
     let turned = first_row > last_row || first_column > last_column;
     let faulty = turned || figures.iter().any(|figure| *figure > 255);
-    let found = answer(rectangles.add(Rectangle {
+    let found = set(rectangles.add(Rectangle {
         first_row,
         first_column,
         last_row,
@@ -431,8 +447,8 @@ fn try_rectangle(rectangles: &mut Rectangles, added: usize, figures: [u16; 4]) -
 pub fn settings() -> Result<u64, Stop> {
     let mut differences = 0u64;
     for figure in [0u16, 1, 16, 17, 64, 65, 65535] {
-        let w = answer(ThreeFour::new(figure));
-        let k = match Weighting::new(WholeRuler(Chessboard), figure) {
+        let w = set(ThreeFour::new(figure));
+        let k = match Weighting::new(WholeRuler::new(Chessboard), figure) {
             Ok(_) => 0,
             Err(back) => back.refusal.number(),
         };

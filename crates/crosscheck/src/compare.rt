@@ -5,12 +5,12 @@ use crate::library::{Shown, enter, mark_of, record_of};
 use crate::look::{Walk, gap, marked, walk_from};
 use crate::recipe::{Far, Recipe};
 use crate::second::{Mark, Second};
-use board::{Cell, MapRecord, Refusal};
+use board::{Cell, MapRecord};
 use ending::Stop;
 use gauges::Ruler;
 use lengths::Length;
 use measuring::{Counts, RowOf};
-use plate::{Draft, Readings};
+use plate::{Draft, Readings, Refusal};
 use queue::Offer;
 use std::alloc::Global;
 

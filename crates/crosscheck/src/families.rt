@@ -80,12 +80,17 @@ fn small(heap: Global, dice: &mut Dice, kind: Kind) -> Result<Land, AllocError> 
 pub fn by_rulers(heap: Global, land: &Land, w: u16) -> Result<u64, Stop> {
     let chessboard = Recipe::plain(Base::Chessboard);
     let three_four = Recipe::plain(Base::ThreeFour(w));
-    let a = compare_board(heap, land, &WholeRuler(Chessboard), &chessboard)?;
-    let b = compare_board(heap, land, &WholeRuler(ThreeFour::new(w)?), &three_four)?;
+    let a = compare_board(heap, land, &WholeRuler::new(Chessboard), &chessboard)?;
+    let b = compare_board(
+        heap,
+        land,
+        &WholeRuler::new(ThreeFour::new(w)?),
+        &three_four,
+    )?;
     let c = compare_board(
         heap,
         land,
-        &WholeRuler(Euclid),
+        &WholeRuler::new(Euclid),
         &Recipe::plain(Base::Euclid),
     )?;
     let d = compare_board(
@@ -115,7 +120,7 @@ pub fn tampered(heap: Global, dice: &mut Dice, boards: u64) -> Result<u64, Stop>
         let land = small(heap, dice, Kind::Rough)?;
         let chessboard = Recipe::plain(Base::Chessboard);
         let counted = Recipe::plain(Base::Counted);
-        let a = compare_tampered(heap, dice, &land, &WholeRuler(Chessboard), &chessboard)?;
+        let a = compare_tampered(heap, dice, &land, &WholeRuler::new(Chessboard), &chessboard)?;
         let b = compare_tampered(heap, dice, &land, &CountedChessboard, &counted)?;
         differences = differences.saturating_add(a).saturating_add(b);
     }
@@ -189,16 +194,16 @@ pub fn stacks(heap: Global, dice: &mut Dice, boards: u64) -> Result<u64, Stop> {
         let land = small(heap, dice, Kind::Rough)?;
         let layers = some_layers(dice);
         let w = dice.from_to(0, 64);
-        let three_four = WholeRuler(ThreeFour::new(w)?);
+        let three_four = WholeRuler::new(ThreeFour::new(w)?);
         let a = by_stacks(
             heap,
             &land,
             Base::Chessboard,
-            WholeRuler(Chessboard),
+            WholeRuler::new(Chessboard),
             layers,
         )?;
         let b = by_stacks(heap, &land, Base::ThreeFour(w), three_four, layers)?;
-        let c = by_stacks(heap, &land, Base::Euclid, WholeRuler(Euclid), layers)?;
+        let c = by_stacks(heap, &land, Base::Euclid, WholeRuler::new(Euclid), layers)?;
         let d = by_stacks(heap, &land, Base::Counted, CountedChessboard, layers)?;
         differences = differences.saturating_add(a).saturating_add(b);
         differences = differences.saturating_add(c).saturating_add(d);
@@ -221,7 +226,7 @@ pub fn limits(heap: Global, dice: &mut Dice) -> Result<u64, Stop> {
         let more = by_rulers(heap, &land, 64)?;
         let mut recipe = Recipe::plain(Base::Euclid);
         recipe.factor = 16;
-        let weighted = Weighting::new(WholeRuler(Euclid), 16)?;
+        let weighted = Weighting::new(WholeRuler::new(Euclid), 16)?;
         let heavy = compare_board(heap, &land, &weighted, &recipe)?;
         differences = differences.saturating_add(more).saturating_add(heavy);
     }

@@ -2,9 +2,9 @@
 use crate::land::Land;
 use crate::recipe::Far;
 use crate::second::Mark;
-use board::{Cell, MapRecord, Refusal};
+use board::{Cell, Dimensions, MapRecord};
 use lengths::{Counted, CountedRow, Length, Whole};
-use plate::Draft;
+use plate::{Draft, Refusal};
 
 // How a kind's rows look to the second implementation.
 pub trait Shown: Length {
@@ -83,8 +83,11 @@ fn enter_cell(
 
 // Opens a plate and enters the board.
 pub fn enter(land: &Land, cells: &mut [Cell], groups: &mut [u8]) -> Result<Draft, Refusal> {
-    let (rows, columns) = ((land.rows & 0xffff) as u16, (land.columns & 0xffff) as u16);
-    let mut draft = Draft::open(rows, columns, cells, groups)?;
+    let dimensions = Dimensions {
+        rows: (land.rows & 0xffff) as u16,
+        columns: (land.columns & 0xffff) as u16,
+    };
+    let mut draft = Draft::open(dimensions, cells, groups)?;
     for place in 0..land.spots.len() {
         enter_cell(&mut draft, cells, land, place)?;
     }

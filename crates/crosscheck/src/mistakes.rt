@@ -26,7 +26,7 @@ fn strip(heap: Global) -> Result<Land, AllocError> {
 // How much is found in maps, in four kinds of readings, and in sheets.
 pub fn found(heap: Global) -> Result<[u64; 6], Stop> {
     let land = strip(heap)?;
-    let ruler = WholeRuler(Chessboard);
+    let ruler = WholeRuler::new(Chessboard);
     let right = Recipe::plain(Base::Chessboard);
     let wrong = Recipe::plain(Base::Euclid);
     Ok([

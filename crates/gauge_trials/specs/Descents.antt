@@ -7,7 +7,10 @@ use Rattle.gauges.specs.RulerLaw.{whole_gauge}
 
 -- bars every step that rises, and adds 1 across the others
 abbrev pub descent : Crossing Whole
-descent = record { barred = λ s. nat_lt s.from.height s.to.height; carried = λ _ a. whole_sum a (whole 1) }
+descent = record {
+  barred = λ s. nat_lt s.from.height s.to.height;
+  carried = λ _ a. whole_sum a (whole 1);
+}
 
 pub descent_lawful : Lawful whole_kind descent
 descent_lawful =

@@ -12,11 +12,15 @@ use Rattle.gauge_trials.specs.Ledges.{ledge, ledge_crossing, level, taken}
 
 genuine_taken : (s : Step) → Genuine s → taken s ≡ true
 genuine_taken s g =
-    grind (arith, nat_tests, g.near, g.from.row, g.from.column, g.from.height, g.to.row, g.to.column, g.to.height)
+    let from = g.from in
+    let to = g.to in
+    grind (arith, nat_tests, g.near, from.row, from.column, from.height, to.row, to.column, to.height)
 
 genuine_back : (s : Step) → Genuine s → taken (reversed s) ≡ true
 genuine_back s g =
-    grind (arith, nat_tests, g.near, g.from.row, g.from.column, g.from.height, g.to.row, g.to.column, g.to.height)
+    let from = g.from in
+    let to = g.to in
+    grind (arith, nat_tests, g.near, from.row, from.column, from.height, to.row, to.column, to.height)
 
 level_back : (s : Step) → level (reversed s) ≡ level s
 level_back s = grind (arith, nat_tests)
@@ -29,7 +33,8 @@ crossing_level : (s : Step) → Genuine s → ledge_crossing.barred s ≡ false 
 crossing_level s g unbarred = grind (arith, nat_tests, genuine_taken s g, unbarred)
 
 -- across a level one the length is added
-adds : (s : Step) → Genuine s → level s ≡ true → (a : Whole) → ledge_crossing.carried s a ≡ whole_sum a (ledge.span s)
+adds : (s : Step) → Genuine s → level s ≡ true → (a : Whole) →
+    ledge_crossing.carried s a ≡ whole_sum a (ledge.span s)
 adds s g is a = rw (genuine_taken s g, is) refl
 
 pub ledge_lawful : Lawful whole_kind ledge_crossing
@@ -53,7 +58,8 @@ ledge_ruled =
       unit = sums.unit;
       ordered = sums.ordered;
       barred_back = λ s g. grind (arith, nat_tests, genuine_taken s g, genuine_back s g, level_back s);
-      span_back = λ s g unbarred. ap (λ n. whole (n + 1)) (grind (arith, nat_tests, ledge_level s g unbarred));
+      span_back = λ s g unbarred.
+          ap (λ n. whole (n + 1)) (grind (arith, nat_tests, ledge_level s g unbarred));
     }
 
 pub ledge_adds : ByAdding ledge ledge_crossing

@@ -1,5 +1,7 @@
--- A client's ruler, with its gauge, that keeps the laws on genuine, unbarred steps; beyond these each law fails of some step. Assumes nothing.
+-- A client's ruler, with its gauge, that keeps the laws on genuine, unbarred steps; beyond these each law fails of some
+-- step. Assumes nothing.
 use Rattle.std.specs.Prelude.{◌≡◌, ℕ, ◌+◌, ◌-◌, Bool, true, false, cond, not, ◌&&◌, ◌==◌, nat_lt}
+use Rattle.board.specs.Sizes.{longest_side}
 use Rattle.lengths.specs.Wholes.{whole, whole_kind, whole_sum}
 use Rattle.lengths.specs.declared.whole.Whole.{Whole}
 use Rattle.gauges.specs.Meanings.{Crossing, Ruling}
@@ -9,11 +11,12 @@ use Rattle.gauges.specs.declared.step.Step.{Step}
 
 -- whether a plate can have a cell
 abbrev pub possible : Point → Bool
-possible p = (nat_lt p.row 256 && nat_lt p.column 256) && nat_lt p.height 65536
+possible p = (nat_lt p.row longest_side && nat_lt p.column longest_side) && nat_lt p.height 65536
 
 -- whether a plate can have a step
 abbrev pub taken : Step → Bool
-taken s = (possible s.from && possible s.to) && neighbours s.from.row s.from.column s.to.row s.to.column
+taken s =
+    (possible s.from && possible s.to) && neighbours s.from.row s.from.column s.to.row s.to.column
 
 abbrev pub level : Step → Bool
 level s = s.from.height == s.to.height
@@ -38,9 +41,11 @@ ledge_crossing = record {
 -- each law that is owed of genuine, unbarred steps fails of this one
 pub record Lawless (s : Step) : Type 0 where
   pub shrinks : whole_kind.le (whole 600) (ledge_crossing.carried s (whole 600)) ≡ false
-  pub turns : whole_kind.le (ledge_crossing.carried s (whole 0)) (ledge_crossing.carried s (whole 1)) ≡ false
+  pub turns :
+      whole_kind.le (ledge_crossing.carried s (whole 0)) (ledge_crossing.carried s (whole 1)) ≡ false
   pub unlike : ((ledge.span (reversed s)).units == (ledge.span s).units) ≡ false
-  pub unadded : ((ledge_crossing.carried s (whole 0)).units == (whole_sum (whole 0) (ledge.span s)).units) ≡ false
+  pub unadded :
+      ((ledge_crossing.carried s (whole 0)).units == (whole_sum (whole 0) (ledge.span s)).units) ≡ false
 
 -- and each that is owed of genuine steps, of this one, which neither the ruler nor the gauge bars
 pub record Stray (s : Step) : Type 0 where

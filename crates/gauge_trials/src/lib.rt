@@ -12,10 +12,11 @@ ghost use Rattle.gauge_trials.specs.Ledges.{LawsHoldNoFurther, ledge, ledge_cros
 ghost use Rattle.gauge_trials.specs.LedgeLaw.{ledge_lawful, ledge_ruled, ledge_adds};
 ghost use Rattle.gauge_trials.specs.Descents.{descent, descent_lawful};
 
+use board::LONGEST_SIDE;
 use gauges::{Gauge, Point, Ruler, Step};
 use lengths::{Length as _, Whole};
 
-// Bars every step.
+/// A gauge that bars every step.
 #[derive(Clone, Copy)]
 pub struct Wall;
 
@@ -31,7 +32,7 @@ impl Gauge for Wall {
     }
 }
 
-// Adds nothing on any step.
+/// A gauge that adds nothing on any step.
 #[derive(Clone, Copy)]
 pub struct Level;
 
@@ -47,7 +48,7 @@ impl Gauge for Level {
     }
 }
 
-// A ruler that bars every step between different heights, and takes any other for 1.
+/// A ruler that bars every step between different heights, and takes any other for 1.
 #[derive(Clone, Copy)]
 pub struct Terrace;
 
@@ -82,7 +83,7 @@ impl Ruler for Terrace {
     }
 }
 
-// Steps down and level steps only, each for 1: the way down is no way up.
+/// A gauge of steps down and level steps only, each for 1: the way down is no way up.
 #[derive(Clone, Copy)]
 pub struct Descent;
 
@@ -105,7 +106,7 @@ impl Gauge for Descent {
 fn is_possible(point: Point) -> bool
     ensures { result ≡ possible point }
 {
-    point.row < 256 && point.column < 256
+    point.row < LONGEST_SIDE && point.column < LONGEST_SIDE
 }
 
 // Whether a plate can have the step.
@@ -118,8 +119,8 @@ fn is_taken(step: Step) -> bool
     is_possible(from) && is_possible(to) && near && !same
 }
 
-// A ruler over level steps that keeps the laws on genuine, unbarred steps, as it owes. Were a law owed of barred steps, of cells that are
-// no neighbours, or of cells that no plate has, it could not be proved of this one.
+/// A ruler over level steps that keeps the laws on genuine, unbarred steps, as it owes. Were a law owed of barred steps, of cells
+/// that are no neighbours, or of cells that no plate has, it could not be proved of this one.
 #[derive(Clone, Copy)]
 pub struct Ledge;
 
@@ -163,12 +164,12 @@ impl Ruler for Ledge {
     }
 }
 
-// So it is: each of the laws that speak of steps fails of steps on which it is not owed.
+/// So it is: each of the laws that speak of steps fails of steps on which it is not owed.
 pub fn ledge_laws_hold_no_further()
     ensures { LawsHoldNoFurther }
 {}
 
-// A step that rises by `rise`, to the right along its row or to the lower right corner.
+/// A step that rises by `rise`, from 0 to 65,535, to the right along its row or to the lower right corner.
 pub fn rising(rise: u16, along_row: bool) -> Step {
     let from = Point {
         row: 3,
@@ -183,12 +184,12 @@ pub fn rising(rise: u16, along_row: bool) -> Step {
     Step { from, to }
 }
 
-// The units of a step by a ruler over whole lengths.
+/// The units of a step by a ruler over whole lengths, or none where it is barred.
 pub fn units_by<R: Ruler<Length = Whole>>(ruler: &R, step: Step) -> Option<u64> {
     ruler.span(step).map(|length| length.units)
 }
 
-// What a gauge over whole lengths carries from a length.
+/// The units that a gauge over whole lengths carries across a step from so many, or none where the step is barred.
 pub fn carried_by<G: Gauge<Length = Whole>>(gauge: &G, step: Step, units: u64) -> Option<u64> {
     gauge
         .carry(step, Whole::new(units))
@@ -198,10 +199,9 @@ pub fn carried_by<G: Gauge<Length = Whole>>(gauge: &G, step: Step, units: u64) -
 #[cfg(test)]
 mod tests {
     use super::*;
-    use board::Refusal;
     use gauges::{
-        Chessboard, CountedChessboard, Euclid, Fence, Rectangle, Rectangles, ThreeFour, Weighting,
-        WholeRuler,
+        Chessboard, CountedChessboard, Euclid, Fence, Rectangle, Rectangles, Refusal, ThreeFour,
+        Weighting, WholeRuler,
     };
     use lengths::{Counted, CountedRow, Length};
     use std::test::Fail;
@@ -248,10 +248,10 @@ mod tests {
 
     #[test]
     fn rulers_have_their_formulas(rt: HostRuntime) {
-        let chessboard = WholeRuler(Chessboard);
+        let chessboard = WholeRuler::new(Chessboard);
         assert_eq!(rt; units_by(&chessboard, rising(0, false)), Some(1));
         assert_eq!(rt; units_by(&chessboard, rising(65535, true)), Some(65536));
-        let euclid = WholeRuler(Euclid);
+        let euclid = WholeRuler::new(Euclid);
         assert_eq!(rt; units_by(&euclid, rising(0, true)), Some(256));
         assert_eq!(rt; units_by(&euclid, rising(0, false)), Some(362));
         assert_eq!(rt; units_by(&euclid, rising(5, true)), Some(1305));
@@ -269,7 +269,7 @@ mod tests {
         for weight in 0..66 {
             match ThreeFour::new(weight) {
                 Ok(formula) => {
-                    let ruler = WholeRuler(formula);
+                    let ruler = WholeRuler::new(formula);
                     assert!(rt; weight <= 64);
                     assert_eq!(rt;
                         units_by(&ruler, rising(10, true)),
@@ -321,7 +321,7 @@ mod tests {
             last_column: 8,
         };
         assert_eq!(rt; rectangles.add(middle), Ok(()));
-        let fence = Fence::new(WholeRuler(Chessboard), rectangles);
+        let fence = Fence::new(WholeRuler::new(Chessboard), rectangles);
         for (step, units) in [
             (level((2, 5), (2, 6)), Some(1)),
             (level((3, 5), (3, 6)), None),
@@ -341,11 +341,11 @@ mod tests {
     fn layers_stack(rt: HostRuntime) -> Result<(), Fail> {
         let mut upper = Rectangles::new();
         assert_eq!(rt; upper.add(rectangle(0, 3, 255)), Ok(()));
-        let open = Fence::new(WholeRuler(Chessboard), Rectangles::new());
+        let open = Fence::new(WholeRuler::new(Chessboard), Rectangles::new());
         let weighted = Weighting::new(open, 16).map_err(|back| back.refusal)?;
         assert_eq!(rt; units_by(&weighted, rising(5, true)), Some(96));
         assert_eq!(rt; carried_by(&weighted, rising(5, true), 4), Some(100));
-        let barred = Weighting::new(Fence::new(WholeRuler(Chessboard), upper), 2).map_err(
+        let barred = Weighting::new(Fence::new(WholeRuler::new(Chessboard), upper), 2).map_err(
             |back| back.refusal,
         )?;
         assert_eq!(rt;

@@ -5,17 +5,15 @@
 // and not taken from what the library answers. A helper's `what` is said where one of its assertions fails.
 #[cfg(test)]
 mod tests {
-    use board::{Cell, MapRecord};
+    use board::{Cell, Dimensions, MapRecord, PADS};
     use gauge_trials::{Descent, Level, Wall};
     use gauges::{Chessboard, Gauge, WholeRuler};
     use lengths::Whole;
-    use measuring::Counts;
+    use measuring::{Counts, ENTRIES_PER_CELL};
     use plate::Draft;
     use queue::Offer;
     use std::process::Abort;
     use std::test::Fail;
-
-    const BY_CHESSBOARD: WholeRuler<Chessboard> = WholeRuler(Chessboard);
 
     const UNREACHED: MapRecord<u64> = MapRecord {
         length: 0,
@@ -38,6 +36,14 @@ mod tests {
         length: 77,
         cell: 777,
     };
+
+    fn by_chessboard() -> WholeRuler<Chessboard> {
+        WholeRuler::new(Chessboard)
+    }
+
+    fn of_size(rows: u16, columns: u16) -> Dimensions {
+        Dimensions { rows, columns }
+    }
 
     // A cell of height 0 with a pad.
     fn pad(pad: u8) -> Cell {
@@ -68,13 +74,13 @@ mod tests {
     }
 
     // Pads 1 and 2 are in group 1, pad 3 is in group 2; of the bytes of pad 4 and beyond pad 64 none is to count.
-    fn pad_groups() -> [u8; 65] {
-        let mut groups = [0; 65];
+    fn pad_groups() -> [u8; PADS + 1] {
+        let mut groups = [0; PADS + 1];
         groups[0] = 1;
         groups[1] = 1;
         groups[2] = 2;
         groups[3] = 3;
-        groups[64] = 1;
+        groups[PADS] = 1;
         groups
     }
 
@@ -82,7 +88,7 @@ mod tests {
     #[derive(Clone, Copy)]
     struct Trial<'w, 'c, 'r> {
         what: &'w str,
-        size: (u16, u16),
+        dimensions: Dimensions,
         cells: &'c [Cell],
         counts: Counts,
         records: &'r [MapRecord<u64>],
@@ -97,10 +103,9 @@ mod tests {
         trial: &Trial<'_, '_, '_>,
     ) -> Result<(), Fail> {
         let what = trial.what;
-        let (rows, columns) = trial.size;
-        let mut draft = Draft::open(rows, columns, &mut [Cell::BARE; 256], &mut [0; 64])?;
+        let mut draft = Draft::open(trial.dimensions, &mut [Cell::BARE; 256], &mut [0; PADS])?;
         let mut map = [OLD; 257];
-        let mut entries = [OLD_OFFER; 2305];
+        let mut entries = [OLD_OFFER; ENTRIES_PER_CELL * 256 + 1];
         let found = draft.measure(gauge, trial.cells, &pad_groups(), 1, &mut map, &mut entries)?;
         assert_eq!(rt; found, trial.counts, "{what}");
         let area = draft.size().area();
@@ -112,7 +117,7 @@ mod tests {
                 "{what}"
             );
         }
-        for offer in entries.iter().skip(9 * area) {
+        for offer in entries.iter().skip(ENTRIES_PER_CELL * area) {
             assert_eq!(rt; *offer, OLD_OFFER, "{what}");
         }
         Ok(())
@@ -120,14 +125,14 @@ mod tests {
 
     #[test]
     fn few_cells_or_none_are_reached(rt: HostRuntime) -> Result<(), Fail> {
-        let one = (1, 1);
-        let four = (2, 2);
+        let one = of_size(1, 1);
+        let four = of_size(2, 2);
         check_map(
             &rt,
-            &BY_CHESSBOARD,
+            &by_chessboard(),
             &Trial {
                 what: "few cells or none are reached",
-                size: one,
+                dimensions: one,
                 cells: &[pad(1)],
                 counts: counts(1, 0),
                 records: &[ranked(0, 1, 0, 0)],
@@ -135,10 +140,10 @@ mod tests {
         )?;
         check_map(
             &rt,
-            &BY_CHESSBOARD,
+            &by_chessboard(),
             &Trial {
                 what: "few cells or none are reached",
-                size: one,
+                dimensions: one,
                 cells: &[Cell::BARE],
                 counts: counts(0, 0),
                 records: &[UNREACHED],
@@ -146,10 +151,10 @@ mod tests {
         )?;
         check_map(
             &rt,
-            &BY_CHESSBOARD,
+            &by_chessboard(),
             &Trial {
                 what: "all barred",
-                size: four,
+                dimensions: four,
                 cells: &[Cell::BARRED; 4],
                 counts: counts(0, 0),
                 records: &[UNREACHED; 4],
@@ -158,10 +163,10 @@ mod tests {
         let other = [pad(3), Cell::BARE, Cell::BARE, pad(3)];
         check_map(
             &rt,
-            &BY_CHESSBOARD,
+            &by_chessboard(),
             &Trial {
                 what: "pads of group 2 only",
-                size: four,
+                dimensions: four,
                 cells: &other,
                 counts: counts(0, 0),
                 records: &[UNREACHED; 4],
@@ -182,10 +187,10 @@ mod tests {
         ];
         check_map(
             &rt,
-            &BY_CHESSBOARD,
+            &by_chessboard(),
             &Trial {
                 what: "every cell is a source",
-                size: (2, 3),
+                dimensions: of_size(2, 3),
                 cells: &cells,
                 counts: counts(6, 22),
                 records: &records,
@@ -212,15 +217,15 @@ mod tests {
         records
     }
 
-    fn check_strip(rt: &impl Abort, what: &str, size: (u16, u16)) -> Result<(), Fail> {
+    fn check_strip(rt: &impl Abort, what: &str, dimensions: Dimensions) -> Result<(), Fail> {
         let mut first = [Cell::BARE; 256];
         first[0] = pad(1);
         check_map(
             rt,
-            &BY_CHESSBOARD,
+            &by_chessboard(),
             &Trial {
                 what,
-                size,
+                dimensions,
                 cells: &first,
                 counts: counts(256, 510),
                 records: &from_first(),
@@ -230,10 +235,10 @@ mod tests {
         last[255] = pad(2);
         check_map(
             rt,
-            &BY_CHESSBOARD,
+            &by_chessboard(),
             &Trial {
                 what,
-                size,
+                dimensions,
                 cells: &last,
                 counts: counts(256, 510),
                 records: &from_last(),
@@ -243,8 +248,8 @@ mod tests {
 
     #[test]
     fn strips_are_measured_to_the_end(rt: HostRuntime) -> Result<(), Fail> {
-        check_strip(&rt, "a row", (1, 256))?;
-        check_strip(&rt, "a column", (256, 1))
+        check_strip(&rt, "a row", of_size(1, 256))?;
+        check_strip(&rt, "a column", of_size(256, 1))
     }
 
     // Of equal offers the one of the lowest-ranked cell counts, whatever the pads' numbers.
@@ -254,10 +259,10 @@ mod tests {
         let records = [ranked(0, 1, 0, 0), ranked(1, 1, 0, 2), ranked(0, 2, 2, 1)];
         check_map(
             &rt,
-            &BY_CHESSBOARD,
+            &by_chessboard(),
             &Trial {
                 what: "equal offers go by rank",
-                size: (1, 3),
+                dimensions: of_size(1, 3),
                 cells: &ends,
                 counts: counts(3, 4),
                 records: &records,
@@ -267,10 +272,10 @@ mod tests {
         let records = [ranked(0, 2, 0, 0), ranked(1, 2, 0, 2), ranked(0, 1, 2, 1)];
         check_map(
             &rt,
-            &BY_CHESSBOARD,
+            &by_chessboard(),
             &Trial {
                 what: "equal offers go by rank",
-                size: (1, 3),
+                dimensions: of_size(1, 3),
                 cells: &swapped,
                 counts: counts(3, 4),
                 records: &records,
@@ -286,10 +291,10 @@ mod tests {
         ];
         check_map(
             &rt,
-            &BY_CHESSBOARD,
+            &by_chessboard(),
             &Trial {
                 what: "the middle links to the cell of the higher number, which was ranked first",
-                size: (1, 5),
+                dimensions: of_size(1, 5),
                 cells: &slopes,
                 counts: counts(5, 8),
                 records: &records,
@@ -324,10 +329,10 @@ mod tests {
         ];
         check_map(
             &rt,
-            &BY_CHESSBOARD,
+            &by_chessboard(),
             &Trial {
                 what: "equal lengths go by cell number",
-                size: (3, 3),
+                dimensions: of_size(3, 3),
                 cells: &cells,
                 counts: counts(9, 40),
                 records: &records,
@@ -362,10 +367,10 @@ mod tests {
         ];
         check_map(
             &rt,
-            &BY_CHESSBOARD,
+            &by_chessboard(),
             &Trial {
                 what: "equal ways go by rank",
-                size: (3, 3),
+                dimensions: of_size(3, 3),
                 cells: &cells,
                 counts: counts(8, 24),
                 records: &records,
@@ -388,7 +393,7 @@ mod tests {
             &Level,
             &Trial {
                 what: "steps may add nothing",
-                size: (1, 4),
+                dimensions: of_size(1, 4),
                 cells: &cells,
                 counts: counts(4, 6),
                 records: &records,
@@ -406,7 +411,7 @@ mod tests {
             &Level,
             &Trial {
                 what: "all link to the cell of rank 0",
-                size: (2, 2),
+                dimensions: of_size(2, 2),
                 cells: &corner,
                 counts: counts(4, 12),
                 records: &records,
@@ -438,7 +443,7 @@ mod tests {
             &Wall,
             &Trial {
                 what: "steps may all be barred",
-                size: (2, 3),
+                dimensions: of_size(2, 3),
                 cells: &cells,
                 counts: counts(2, 6),
                 records: &records,
@@ -460,7 +465,7 @@ mod tests {
             &Descent,
             &Trial {
                 what: "steps lead away from ranked cells",
-                size: (1, 3),
+                dimensions: of_size(1, 3),
                 cells: &[height(2), middle, Cell::BARE],
                 counts: counts(2, 3),
                 records: &records,
@@ -485,10 +490,10 @@ mod tests {
         let cells = [pad(65), pad(4), Cell::BARE, pad(1), walled, pad(1)];
         check_map(
             &rt,
-            &BY_CHESSBOARD,
+            &by_chessboard(),
             &Trial {
                 what: "tampered tables are measured",
-                size: (1, 5),
+                dimensions: of_size(1, 5),
                 cells: &cells,
                 counts: counts(4, 6),
                 records: &records,

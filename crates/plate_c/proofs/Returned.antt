@@ -3,10 +3,15 @@ use Rattle.plate_c.proofs.Steps.{ !, Array, Array-whole, Fml, List, Logic, Ptr, 
 use Rattle.plate_c.specs.Lent.{lent}
 use denote.Memory.{part_of}
 
--- a struct that owns its fields and what is lent at a pointer is whole once its own cell and the elements, these now, are back
-pub returned : {M : Type 1} {𝓤 : Ura M} (𝓛 : Logic 𝓤) (E S : RattleType) (fields : Fml) (h : S.Denot) (us : List Val) (p : Ptr) (n rb ro b o : ℕ) (ws : List E.Denot)
-    → S.own_val h us ≡ fsep fields (lent E p n ws) → p ≡ block_ptr b o → n * type_size E < 2 ^ 63 → length ws ≡ n
-    → ent 𝓤 (sep 𝓤 (sem 𝓛 (cells (mem E) ws b o)) (sem 𝓛 (fsep fields (cell_at full_share S.mir us rb ro)))) (sem 𝓛 ((mem S).own_at h rb ro))
+-- a struct that owns its fields and what is lent at a pointer is whole once its own cell and the elements, these now, are
+-- back
+pub returned : {M : Type 1} {𝓤 : Ura M} (𝓛 : Logic 𝓤) (E S : RattleType) (fields : Fml) (h : S.Denot)
+    (us : List Val) (p : Ptr) (n rb ro b o : ℕ) (ws : List E.Denot)
+    → S.own_val h us ≡ fsep fields (lent E p n ws)
+    → p ≡ block_ptr b o → n * type_size E < 2 ^ 63 → length ws ≡ n
+    → ent 𝓤
+    (sep 𝓤 (sem 𝓛 (cells (mem E) ws b o)) (sem 𝓛 (fsep fields (cell_at full_share S.mir us rb ro))))
+    (sem 𝓛 ((mem S).own_at h rb ro))
 unfolding part_of
 returned 𝓛 E S fields h us p n rb ro b o ws owns e small long =
     qed 𝓛 (‵ (cells (mem E) ws b o) ∷ ‵ (fsep fields (cell_at full_share S.mir us rb ro)) ∷ []) ∵

@@ -1,5 +1,5 @@
-// The tables that C lends. Each is a pointer and a length, since the library's records are generic structs, to which no reference
-// passes from C. That so many values lie there is the caller's part.
+// The tables that C lends. Each is a pointer and a length, since the library's records are generic structs, to which no
+// reference passes from C. That so many values lie there is the caller's part.
 ghost use Rattle.std.specs.Prelude.{◌≡◌, ℕ, List, length};
 ghost use Rattle.std.specs.Borrow.{sem, u64};
 ghost use Rattle.board.specs.contracts.cell.Cell.{the_row as cell_row};
@@ -14,7 +14,7 @@ use board::{Cell, MapRecord};
 use queue::Offer;
 use std::marker::Model;
 
-// Room for cells.
+/// Room for so many cells, which are the caller's: a plate needs one for each of its own, from 1 to 65,536.
 #[repr(C)]
 #[derive(Drop)]
 pub struct LentCells {
@@ -23,7 +23,7 @@ pub struct LentCells {
     pub ghost cells: { List Cell },
 }
 
-// Room for a map.
+/// Room for so many records of a map, which are the caller's: a plate needs one for each cell.
 #[repr(C)]
 #[derive(Drop)]
 pub struct LentMap {
@@ -32,7 +32,7 @@ pub struct LentMap {
     pub ghost map: { List (MapRecord ℕ) },
 }
 
-// Room for a queue's entries.
+/// Room for so many entries of a queue, which are the caller's: measuring needs nine for each cell.
 #[repr(C)]
 #[derive(Drop)]
 pub struct LentEntries {
@@ -41,7 +41,7 @@ pub struct LentEntries {
     pub ghost entries: { List (Offer ℕ) },
 }
 
-// What a call measures in.
+/// What a call measures in.
 #[repr(C)]
 #[derive(Drop)]
 pub struct Tables {
@@ -65,7 +65,7 @@ impl Model for LentEntries {
 impl LentCells {
     ghost use Rattle.plate_c.specs.Loans.{LendsCells};
 
-    // Of cells that no one else will see again: what a caller in Rattle lends.
+    /// Of cells that no one else will see again: what a caller in Rattle lends.
     pub fn of(cells: &'static mut [Cell]) -> LentCells
         ensures len { result.len ≡ length cells.old }
         ensures values { result.cells ≡ cells.old }
@@ -76,6 +76,7 @@ impl LentCells {
         }
     }
 
+    /// The cells; those that the slice ends with are the table's then.
     pub fn slice(&mut self) -> &mut [Cell]
         ensures* writes_back { sem 𝓛 (LendsCells self.entry result) }
         ensures value { result.now ≡ self.old.cells }
@@ -88,7 +89,7 @@ impl LentCells {
 impl LentMap {
     ghost use Rattle.plate_c.specs.Loans.{LendsMap};
 
-    // Of records that no one else will see again: what a caller in Rattle lends.
+    /// Of records that no one else will see again: what a caller in Rattle lends.
     pub fn of(map: &'static mut [MapRecord<u64>]) -> LentMap
         ensures len { result.len ≡ length map.old }
         ensures values { result.map ≡ map.old }
@@ -99,6 +100,7 @@ impl LentMap {
         }
     }
 
+    /// The records; those that the slice ends with are the table's then.
     pub fn slice(&mut self) -> &mut [MapRecord<u64>]
         ensures* writes_back { sem 𝓛 (LendsMap self.entry result) }
         ensures value { result.now ≡ self.old.map }
@@ -111,7 +113,7 @@ impl LentMap {
 impl LentEntries {
     ghost use Rattle.plate_c.specs.Loans.{LendsEntries};
 
-    // Of entries that no one else will see again: what a caller in Rattle lends.
+    /// Of entries that no one else will see again: what a caller in Rattle lends.
     pub fn of(entries: &'static mut [Offer<u64>]) -> LentEntries
         ensures len { result.len ≡ length entries.old }
         ensures values { result.entries ≡ entries.old }
@@ -122,6 +124,7 @@ impl LentEntries {
         }
     }
 
+    /// The entries; those that the slice ends with are the table's then.
     pub fn slice(&mut self) -> &mut [Offer<u64>]
         ensures* writes_back { sem 𝓛 (LendsEntries self.entry result) }
         ensures value { result.now ≡ self.old.entries }

@@ -1,46 +1,52 @@
-// Measuring for programs that are not written in Rattle, over numbers, slices and lent tables: what bench/ times. Nothing is
-// allocated, so a call always answers; and a call may measure many times, so that entering the board can be taken off. That C's
-// slices, references and tables are what they say is the caller's part.
+// Measuring for programs that are not written in Rattle, over numbers, slices and lent tables: what bench/ times. Nothing
+// is allocated, so a call always answers; and a call may measure many times, so that entering the board can be taken off.
+// That C's slices, references and tables are what they say is the caller's part.
 #![tactic(auto)]
 
 mod lent;
 
-ghost use Rattle.std.specs.Prelude.{◌≡◌, ◌*◌, ◌≤◌, ◌++◌, Some, None, map, length, drop, IfSome, MatchResult, nat_lt};
-ghost use Rattle.std.specs.List.{list_any};
-ghost use Rattle.board.specs.Sizes.{Sized, area};
-ghost use Rattle.lengths.specs.Wholes.{whole_rows};
-ghost use Rattle.measuring.specs.Maps.{counts_of, measured_map};
-ghost use Rattle.plate_c.specs.Answers.{Answers, Measured, by_chessboard, only_pad_1, plate_refusal, record_of, short_of, spot_cell};
+ghost use Rattle.std.specs.Prelude.{◌≡◌, ◌*◌, ◌≤◌, false, ◌++◌, Some, None, map, length, drop, IfSome, MatchResult, OnErr};
+ghost use Rattle.board.specs.Sizes.{Sized, area, area_asked, bad_size};
+ghost use Rattle.board.specs.Tables.{pads};
+ghost use Rattle.measuring.specs.Boards.{on};
+ghost use Rattle.measuring.specs.ByChessboard.{by_chessboard};
+ghost use Rattle.measuring.specs.Maps.{counts_of, entries_needed, entries_per_cell, measured_map};
+ghost use Rattle.plate_c.specs.Answers.{HandsOver, Measured, answer_number, asked, by_sides, counted, only_pad_1, plate_refusal, record_of, room_in, short_of, spot_cell, unknown_pad};
 ghost use Rattle.plate_c.specs.Tables.{Stay, room_of};
 
-use board::{Cell, MapRecord, Refusal, Size};
+use board::{Cell, Dimensions, MapRecord, PADS, Size};
 use gauges::{Chessboard, WholeRuler};
 pub use lent::{LentCells, LentEntries, LentMap, Tables};
-use measuring::Counts;
-use plate::Draft;
+use measuring::{Counts, ENTRIES_PER_CELL};
+use plate::{Draft, Refusal};
 use queue::Offer;
 
 // What a call answers that has measured.
 const MEASURED: u8 = 0;
 
-const BY_CHESSBOARD: WholeRuler<Chessboard> = WholeRuler(Chessboard);
-
-// What a map says of one cell, by chessboard; reached is 1 or 0.
+/// What a map says of one cell, by chessboard; of an unreached cell all is 0.
 #[repr(C)]
 #[derive(Clone, Copy, Debug, PartialEq, Eq)]
 pub struct Record {
+    /// The length of its path, in units of the chessboard ruler.
     pub length: u64,
+    /// The number of the cell before it on its path; a source has its own.
     pub link: u16,
+    /// How many cells were reached before it.
     pub rank: u16,
+    /// The pad of its path's source, from 1 to 64.
     pub pad: u8,
+    /// 1 where the cell is reached, else 0.
     pub reached: u8,
 }
 
-// An open cell's height and pad.
+/// An open cell.
 #[repr(C)]
 #[derive(Clone, Copy)]
 pub struct Spot {
+    /// Any height, from 0 to 65,535.
     pub height: u16,
+    /// From 0, which is no pad, to 64; a greater one is sent back.
     pub pad: u8,
 }
 
@@ -70,12 +76,16 @@ impl From<Spot> for Cell {
     }
 }
 
-// How many cells, records of a map, entries of a queue and records for C there is room for.
+/// How much there is room for.
 #[derive(Clone, Copy)]
 pub struct Room {
+    /// Cells.
     pub cells: usize,
+    /// Records of a map.
     pub map: usize,
+    /// Entries of a queue.
     pub entries: usize,
+    /// Records for C.
     pub records: usize,
 }
 
@@ -85,22 +95,26 @@ impl Room {
         requires { area ≤ 65536 }
         ensures { result ≡ short_of self area }
     {
-        self.cells < area || self.map < area || self.entries < 9 * area || self.records < area
+        let entries = ENTRIES_PER_CELL * area;
+        self.cells < area || self.map < area || self.entries < entries || self.records < area
     }
 }
 
 // Whether a spot's pad is above 64.
 fn has_unknown_pad(spots: &[Spot]) -> bool
-    ensures { result ≡ list_any (λ spot. nat_lt 64 spot.pad) spots.now }
+    ensures { result ≡ unknown_pad spots.now }
 {
-    spots.iter().any(|spot| spot.pad > 64)
+    spots.iter().any(|spot| usize::from(spot.pad) > PADS)
 }
 
 // The plate's size, where nothing stands against measuring it in this room.
-fn size_of(rows: u16, columns: u16, spots: &[Spot], room: Room) -> Result<Size, Refusal>
-    ensures { MatchResult result (λ size. (plate_refusal rows columns spots.now room ≡ None) × Sized size rows columns) (λ e. plate_refusal rows columns spots.now room ≡ Some e) }
+fn size_of(dimensions: Dimensions, spots: &[Spot], room: Room) -> Result<Size, Refusal>
+    ensures { let refused = plate_refusal (asked dimensions spots.now) room in
+        MatchResult result
+        (λ size. (refused ≡ None) × Sized size dimensions)
+        (λ e. refused ≡ Some e) }
 {
-    let size = Size::new(rows, columns)?;
+    let size = Size::new(dimensions).ok_or(Refusal::Size)?;
     if spots.len() != size.area() || room.is_short_of(size.area()) {
         return Err(Refusal::Tables);
     }
@@ -121,15 +135,16 @@ fn write_cells(cells: &mut [Cell], spots: &[Spot])
 }
 
 // Opens a plate of the spots, with pad 1 in group 1.
-fn entered(size: Size, spots: &[Spot], cells: &mut [Cell], groups: &mut [u8]) -> Draft
-    requires spots { length spots.now ≡ area size }
-    requires cells { length cells.old ≡ area size }
-    requires groups { length groups.old ≡ 64 }
-    ensures size { Sized result.header.size size.rows size.columns }
+fn entered(dimensions: Dimensions, spots: &[Spot], cells: &mut [Cell], groups: &mut [u8]) -> Draft
+    requires size { bad_size dimensions ≡ false }
+    requires spots { length spots.now ≡ area_asked dimensions }
+    requires cells { length cells.old ≡ area_asked dimensions }
+    requires groups { length groups.old ≡ pads }
+    ensures size { Sized result.header.size dimensions }
     ensures cells { cells.new ≡ map spot_cell spots.now }
     ensures groups { groups.new ≡ only_pad_1 }
 {
-    let mut draft = Draft::open(size.rows, size.columns, cells, groups).unwrap();
+    let mut draft = Draft::open(dimensions, cells, groups).unwrap();
     write_cells(cells, spots);
     draft.enrol(groups, 1, 1).unwrap();
     draft
@@ -145,18 +160,21 @@ fn measure(
     entries: &mut [Offer<u64>],
 ) -> Counts
     requires cells { length cells.now ≡ area draft.old.header.size }
-    requires groups { length groups.now ≡ 64 }
+    requires groups { length groups.now ≡ pads }
     requires map { length map.old ≡ area draft.old.header.size }
-    requires entries { length entries.old ≡ 9 * area draft.old.header.size }
-    ensures counts { result ≡ counts_of (by_chessboard draft.old.header.size cells.now groups.now) }
-    ensures map { map.new ≡ measured_map whole_rows (by_chessboard draft.old.header.size cells.now groups.now) }
+    requires entries { length entries.old ≡ entries_needed draft.old.header.size }
+    ensures counts { result ≡
+        counts_of (by_chessboard (on draft.old.header.size cells.now groups.now) 1) }
+    ensures map { map.new ≡
+        measured_map (by_chessboard (on draft.old.header.size cells.now groups.now) 1) }
 {
+    let ruler = WholeRuler::new(Chessboard);
     let mut counts = draft
-        .measure(&BY_CHESSBOARD, cells, groups, 1, map, entries)
+        .measure(&ruler, cells, groups, 1, map, entries)
         .unwrap();
     for _ in 1..times {
         counts = draft
-            .measure(&BY_CHESSBOARD, cells, groups, 1, map, entries)
+            .measure(&ruler, cells, groups, 1, map, entries)
             .unwrap();
     }
     counts
@@ -174,8 +192,7 @@ fn write_records(out: &mut [Record], found: &[MapRecord<u64>])
 
 // Measures the plate of the spots in the tables, and writes the map. What stops it comes before anything is written.
 fn measured(
-    rows: u16,
-    columns: u16,
+    dimensions: Dimensions,
     spots: &[Spot],
     times: usize,
     cells: &mut [Cell],
@@ -183,18 +200,19 @@ fn measured(
     entries: &mut [Offer<u64>],
     out: &mut [Record],
 ) -> Result<Counts, Refusal>
-    ensures outcome { let refused = plate_refusal rows columns spots.now (record {
-      cells = length cells.old;
-      map = length map.old;
-      entries = length entries.old;
-      records = length out.old;
-    }) in
+    ensures outcome { let plate = asked dimensions spots.now in
+        let refused = plate_refusal plate (room_in cells.old map.old entries.old out.old) in
         MatchResult result
-        (λ counts. (refused ≡ None) × Measured rows columns spots.now out.old out.new counts)
-        (λ e. (refused ≡ Some e) × (out.new ≡ out.old) × (cells.new ≡ cells.old) × (map.new ≡ map.old) × (entries.new ≡ entries.old)) }
-    ensures cells { drop (rows * columns) cells.new ≡ drop (rows * columns) cells.old }
-    ensures map { drop (rows * columns) map.new ≡ drop (rows * columns) map.old }
-    ensures entries { drop (9 * (rows * columns)) entries.new ≡ drop (9 * (rows * columns)) entries.old }
+        (λ counts. (refused ≡ None) × Measured plate out.old out.new counts)
+        (λ e. refused ≡ Some e) }
+    ensures refused_out { OnErr result (out.new ≡ out.old) }
+    ensures refused_cells { OnErr result (cells.new ≡ cells.old) }
+    ensures refused_map { OnErr result (map.new ≡ map.old) }
+    ensures refused_entries { OnErr result (entries.new ≡ entries.old) }
+    ensures cells { let n = area_asked dimensions in drop n cells.new ≡ drop n cells.old }
+    ensures map { let n = area_asked dimensions in drop n map.new ≡ drop n map.old }
+    ensures entries { let n = entries_per_cell * area_asked dimensions in
+        drop n entries.new ≡ drop n entries.old }
 {
     let room = Room {
         cells: cells.len(),
@@ -202,20 +220,23 @@ fn measured(
         entries: entries.len(),
         records: out.len(),
     };
-    let size = size_of(rows, columns, spots, room)?;
+    let size = size_of(dimensions, spots, room)?;
     let area = size.area();
     let cells = &mut cells[..area];
     let map = &mut map[..area];
-    let entries = &mut entries[..9 * area];
-    let mut groups = [0; 64];
-    let mut draft = entered(size, spots, cells, &mut groups);
+    let entries = &mut entries[..ENTRIES_PER_CELL * area];
+    let mut groups = [0; PADS];
+    let mut draft = entered(dimensions, spots, cells, &mut groups);
     let counts = measure(&mut draft, cells, &groups, times, map, entries);
     write_records(out, map);
     Ok(counts)
 }
 
-// Measures group 1 of a plate by chessboard so many times, and once where that is 0. The plate has a spot for each cell, and pad 1
-// alone is in group 1. Answers 0, and the map's records and the two counts are written; or a refusal's number, and nothing is.
+/// Measures group 1 of a plate of 1 to 256 rows and 1 to 256 columns by chessboard so many times, and once where that is 0.
+/// The plate has a spot for each cell, row by row, and pad 1 alone is in group 1. Answers 0, and the map's records, how many
+/// cells were reached and how many steps were put to the ruler are written; or a refusal's number, and nothing is. Sent back
+/// with 1: rows or columns out of range. With 2: spots that are not one for each cell, or a table, or `out`, with no room
+/// for one entry for each cell, and for a queue's nine. With 4: a pad above 64.
 #[unsafe(no_mangle)]
 pub extern "C" fn plate_measured(
     rows: u16,
@@ -227,19 +248,21 @@ pub extern "C" fn plate_measured(
     reached: &mut usize,
     steps: &mut usize,
 ) -> u8
-    ensures answer { let refused = plate_refusal rows columns spots.now (room_of tables.old (length out.old)) in
-        Answers refused rows columns spots.now out.old out.new
-        (record { reached = reached.old; steps = steps.old })
-        (record { reached = reached.new; steps = steps.new })
-        result }
-    ensures refused { let refused = plate_refusal rows columns spots.now (room_of tables.old (length out.old)) in
-        IfSome refused (λ _. tables.new ≡ tables.old) }
+    ensures answer { let plate = asked (by_sides rows columns) spots.now in
+        result ≡ answer_number (plate_refusal plate (room_of tables.old (length out.old))) }
+    ensures hands_over { let plate = asked (by_sides rows columns) spots.now in
+        HandsOver (plate_refusal plate (room_of tables.old (length out.old))) plate out.old out.new
+        (counted reached.old steps.old) (counted reached.new steps.new) }
+    ensures refused { let plate = asked (by_sides rows columns) spots.now in
+        IfSome (plate_refusal plate (room_of tables.old (length out.old)))
+        (λ _. tables.new ≡ tables.old) }
     ensures tables { Stay (rows * columns) tables.old tables.new }
 {
     let cells = tables.cells.slice();
     let map = tables.map.slice();
     let entries = tables.entries.slice();
-    match measured(rows, columns, spots, times, cells, map, entries, out) {
+    let dimensions = Dimensions { rows, columns };
+    match measured(dimensions, spots, times, cells, map, entries, out) {
         Ok(counts) => {
             *reached = counts.reached;
             *steps = counts.steps;
@@ -441,7 +464,7 @@ mod tests {
         let exact = Room {
             cells: area,
             map: area,
-            entries: 9 * area,
+            entries: ENTRIES_PER_CELL * area,
             records: area,
         };
         let mut tables = tables(rt.alloc(), exact)?;

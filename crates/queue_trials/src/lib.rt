@@ -4,18 +4,21 @@
 use lengths::{Counted, CountedRow, Length, Whole};
 use queue::{ByLength, Offer, OfferQueue, Order};
 
-// How many offers a trial makes.
+/// How many offers a trial makes.
 pub const OFFERS: usize = 300;
 
-// What came out of a queue.
+/// What came out of a queue.
 #[derive(Clone, Copy, Debug, PartialEq, Eq)]
 pub struct Drained {
+    /// How many offers.
     pub count: usize,
+    /// The sum of their cell numbers.
     pub cells: u64,
+    /// Whether each was at most the next.
     pub ascending: bool,
 }
 
-// The next number of a fixed generator.
+/// The next number of a fixed generator; any number may be the first.
 pub fn next_number(number: u64) -> u64 {
     number
         .wrapping_mul(6364136223846793005)
@@ -58,7 +61,7 @@ fn pop_all<'q, K: Length>(queue: &mut OfferQueue<'q, K>) -> Drained {
     drained
 }
 
-// The sum of the cell numbers of the first offers.
+/// The sum of the cell numbers, from 0 to 255, of so many first offers.
 pub fn cells_offered(offers: usize) -> u64 {
     let mut cells: u64 = 0;
     let mut number = 1;
@@ -69,7 +72,8 @@ pub fn cells_offered(offers: usize) -> u64 {
     cells
 }
 
-// Pushes one offer for each row, one more than the slice holds where it is too short, and pops them all.
+/// Pushes one offer for each row, in a queue over the slice, and pops them all: how many were accepted, which are as many as the
+/// slice holds where the rows are more, and what came out.
 pub fn through_queue<K: Length>(rows: &[K::Row], slice: &mut [Offer<K::Row>]) -> (usize, Drained) {
     let mut queue = OfferQueue::<K>::new(slice);
     let accepted = push_all(rows, &mut queue);

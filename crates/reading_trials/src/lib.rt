@@ -5,19 +5,20 @@
 // A helper's `what` is said where one of its assertions fails.
 #[cfg(test)]
 mod tests {
-    use board::{Cell, MapRecord, Refusal};
+    use board::{Cell, Dimensions, MapRecord, PADS};
     use gauges::{Chessboard, CountedChessboard, Euclid, Ruler, ThreeFour, WholeRuler};
     use lengths::{CountedRow, Length, Whole};
-    use measuring::RowOf;
-    use plate::{Draft, Readings};
+    use measuring::{ENTRIES_PER_CELL, RowOf};
+    use plate::{Draft, Readings, Refusal};
     use queue::Offer;
     use std::fmt::Debug;
     use std::process::Abort;
     use std::test::Fail;
 
-    const BY_CHESSBOARD: WholeRuler<Chessboard> = WholeRuler(Chessboard);
-
-    const STRIP: (u16, u16) = (1, 3);
+    const STRIP: Dimensions = Dimensions {
+        rows: 1,
+        columns: 3,
+    };
 
     // What stands in a map before measuring, and beyond the board after it: a reached cell linked to itself.
     const OLD: MapRecord<u64> = MapRecord {
@@ -36,6 +37,14 @@ mod tests {
     // What stands in a list before a way is written.
     const BLANK: u16 = 99;
 
+    fn by_chessboard() -> WholeRuler<Chessboard> {
+        WholeRuler::new(Chessboard)
+    }
+
+    fn of_size(rows: u16, columns: u16) -> Dimensions {
+        Dimensions { rows, columns }
+    }
+
     // A cell of height 0 with a pad.
     fn pad(pad: u8) -> Cell {
         Cell { pad, ..Cell::BARE }
@@ -50,16 +59,16 @@ mod tests {
     }
 
     // The groups of pads 1 and 2.
-    fn pad_groups(one: u8, two: u8) -> [u8; 64] {
-        let mut groups = [0; 64];
+    fn pad_groups(one: u8, two: u8) -> [u8; PADS] {
+        let mut groups = [0; PADS];
         groups[0] = one;
         groups[1] = two;
         groups
     }
 
     // Opens a plate over spare tables, since opening clears them.
-    fn open(size: (u16, u16)) -> Result<Draft, Refusal> {
-        Draft::open(size.0, size.1, &mut [Cell::BARE; 9], &mut [0; 64])
+    fn open(dimensions: Dimensions) -> Result<Draft, Refusal> {
+        Draft::open(dimensions, &mut [Cell::BARE; 9], &mut [0; PADS])
     }
 
     // Measures a group by chessboard.
@@ -70,15 +79,22 @@ mod tests {
         group: u16,
     ) -> Result<[MapRecord<u64>; 4], Refusal> {
         let mut map = [OLD; 4];
-        let mut entries = [Offer { length: 0, cell: 0 }; 36];
-        draft.measure(&BY_CHESSBOARD, cells, groups, group, &mut map, &mut entries)?;
+        let mut entries = [Offer { length: 0, cell: 0 }; ENTRIES_PER_CELL * 4];
+        draft.measure(
+            &by_chessboard(),
+            cells,
+            groups,
+            group,
+            &mut map,
+            &mut entries,
+        )?;
         Ok(map)
     }
 
     // A board of up to 9 cells, with pad 1 in group 1 and pad 2 in group 2.
     #[derive(Clone, Copy)]
     struct Board<'a> {
-        size: (u16, u16),
+        dimensions: Dimensions,
         cells: &'a [Cell],
     }
 
@@ -140,7 +156,7 @@ mod tests {
             second,
             entries,
         } = tables;
-        let mut draft = open(board.size)?;
+        let mut draft = open(board.dimensions)?;
         let groups = pad_groups(1, 2);
         draft.measure(ruler, board.cells, &groups, 1, first, entries)?;
         draft.measure(ruler, board.cells, &groups, 2, second, entries)?;
@@ -162,7 +178,7 @@ mod tests {
         let tables = Tables {
             first: &mut [OLD; 10],
             second: &mut [OLD; 10],
-            entries: &mut [Offer { length: 0, cell: 0 }; 90],
+            entries: &mut [Offer { length: 0, cell: 0 }; ENTRIES_PER_CELL * 10],
         };
         check_route(rt, what, ruler, board, tables, &route)
     }
@@ -181,7 +197,7 @@ mod tests {
             entries: &mut [Offer {
                 length: zero,
                 cell: 0,
-            }; 90],
+            }; ENTRIES_PER_CELL * 10],
         };
         check_route(rt, what, &CountedChessboard, board, tables, &route)
     }
@@ -280,11 +296,11 @@ mod tests {
         second: &[MapRecord<u64>],
         refusal: Refusal,
     ) {
-        let gap = draft.gap(&BY_CHESSBOARD, first, second);
+        let gap = draft.gap(&by_chessboard(), first, second);
         assert_eq!(rt; gap.map(|gap| gap.is_some()), Err(refusal), "{what}");
         let mut marks = [7; 3];
         assert_eq!(rt;
-            draft.route(&BY_CHESSBOARD, first, second, &mut marks),
+            draft.route(&by_chessboard(), first, second, &mut marks),
             Err(refusal),
             "{what}"
         );
@@ -303,7 +319,7 @@ mod tests {
             Cell::BARE,
         ];
         let hill = Board {
-            size: (2, 3),
+            dimensions: of_size(2, 3),
             cells: &cells,
         };
         let round = Route {
@@ -311,14 +327,14 @@ mod tests {
             count: 3,
             marks: &[1, 0, 1, 0, 1, 0],
         };
-        check_whole(&rt, what, &BY_CHESSBOARD, hill, round)?;
+        check_whole(&rt, what, &by_chessboard(), hill, round)?;
         let mut cells = [Cell::BARE; 9];
         cells[0] = pad(1);
         cells[1] = height(1);
         cells[2] = pad(2);
         cells[4] = Cell::BARRED;
         let ring = Board {
-            size: (3, 3),
+            dimensions: of_size(3, 3),
             cells: &cells,
         };
         let both = Route {
@@ -326,7 +342,7 @@ mod tests {
             count: 6,
             marks: &[1, 1, 1, 1, 0, 1, 0, 1, 0],
         };
-        check_whole(&rt, what, &BY_CHESSBOARD, ring, both)?;
+        check_whole(&rt, what, &by_chessboard(), ring, both)?;
         let row = Route {
             gap: Some(CountedRow { units: 4, steps: 2 }),
             count: 3,
@@ -341,7 +357,7 @@ mod tests {
         let what = "hills are crossed";
         let cells = [pad(1), height(5), pad(2)];
         let hill = Board {
-            size: STRIP,
+            dimensions: STRIP,
             cells: &cells,
         };
         let across = Route {
@@ -349,8 +365,8 @@ mod tests {
             count: 3,
             marks: &[1, 1, 1],
         };
-        check_whole(&rt, what, &BY_CHESSBOARD, hill, across)?;
-        let three_four = WholeRuler(ThreeFour::new(1)?);
+        check_whole(&rt, what, &by_chessboard(), hill, across)?;
+        let three_four = WholeRuler::new(ThreeFour::new(1)?);
         let by_three_four = Route {
             gap: Some(16),
             ..across
@@ -360,7 +376,7 @@ mod tests {
             gap: Some(2610),
             ..across
         };
-        check_whole(&rt, "Euclid", &WholeRuler(Euclid), hill, by_euclid)?;
+        check_whole(&rt, "Euclid", &WholeRuler::new(Euclid), hill, by_euclid)?;
         let counted = Route {
             gap: Some(CountedRow {
                 units: 12,
@@ -383,7 +399,7 @@ mod tests {
         let what = "walls part";
         let cells = [pad(1), Cell::BARRED, pad(2)];
         let wall = Board {
-            size: STRIP,
+            dimensions: STRIP,
             cells: &cells,
         };
         let none = Route {
@@ -391,7 +407,7 @@ mod tests {
             count: 0,
             marks: &[0, 0, 0],
         };
-        check_whole(&rt, what, &BY_CHESSBOARD, wall, none)?;
+        check_whole(&rt, what, &by_chessboard(), wall, none)?;
         let mut draft = open(STRIP)?;
         let map = measure(&mut draft, &cells, &pad_groups(1, 2), 1)?;
         let row = RowReadings::new(&rt, what, &draft, &map);
@@ -453,8 +469,8 @@ mod tests {
     fn readings_are_sent_back(rt: HostRuntime) -> Result<(), Fail> {
         let what = "readings are sent back";
         let mut cells = [Cell::BARE; 3];
-        let mut groups = [0; 64];
-        let mut draft = Draft::open(1, 3, &mut cells, &mut groups)?;
+        let mut groups = [0; PADS];
+        let mut draft = Draft::open(STRIP, &mut cells, &mut groups)?;
         draft.set(&mut cells, 0, 0, 0, 1)?;
         draft.enrol(&mut groups, 1, 1)?;
         RowReadings::new(&rt, "not yet measured", &draft, &[OLD; 3]).check_refused(
@@ -486,7 +502,7 @@ mod tests {
         check_apart(&rt, what, &draft, &first, &second[0..2], Refusal::Tables);
         let mut marks = [7; 2];
         assert_eq!(rt;
-            draft.route(&BY_CHESSBOARD, &first, &second, &mut marks),
+            draft.route(&by_chessboard(), &first, &second, &mut marks),
             Err(Refusal::Tables)
         );
         assert_eq!(rt; marks, [7; 2]);

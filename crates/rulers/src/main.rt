@@ -2,19 +2,25 @@
 // group 1's map are reached, the steps put to the gauge, the length of each cell, and the gap.
 #![tactic(auto)]
 
-use board::{Cell, MapRecord, Refusal};
+use board::{Cell, Dimensions, MapRecord, PADS};
 use ending::{Stop, finish};
 use gauges::{
     Chessboard, CountedChessboard, Euclid, Fence, Rectangle, Rectangles, Ruler, ThreeFour,
     Weighting, WholeRuler,
 };
 use lengths::{Counted, Length, Whole};
-use measuring::RowOf;
+use measuring::{ENTRIES_PER_CELL, RowOf};
 use plate::{Draft, Readings};
 use queue::Offer;
 use std::{fmt, io};
 
 // The board's 3 rows of 4 cells.
+const BOARD: Dimensions = Dimensions {
+    rows: 3,
+    columns: 4,
+};
+
+// How many cells that is.
 const CELLS: usize = 12;
 
 // A length as it is printed: its units, and its steps where they are counted.
@@ -34,8 +40,8 @@ impl fmt::Display for Printed<Counted> {
 }
 
 // Enters the board: pads 1 and 2 are in group 1, pad 3 is in group 2.
-fn enter_board(cells: &mut [Cell], groups: &mut [u8]) -> Result<Draft, Refusal> {
-    let mut draft = Draft::open(3, 4, cells, groups)?;
+fn enter_board(cells: &mut [Cell], groups: &mut [u8]) -> Result<Draft, plate::Refusal> {
+    let mut draft = Draft::open(BOARD, cells, groups)?;
     draft.set(cells, 0, 0, 1, 1)?;
     draft.set(cells, 0, 1, 5, 0)?;
     draft.set(cells, 0, 2, 3, 0)?;
@@ -75,7 +81,7 @@ where
     RowOf<R>: Clone,
 {
     let mut cells = [Cell::BARE; CELLS];
-    let mut groups = [0u8; 64];
+    let mut groups = [0u8; PADS];
     let mut draft = enter_board(&mut cells, &mut groups)?;
     let zero = <R::Length as Length>::zero().encode();
     let heap = rt.alloc();
@@ -84,7 +90,7 @@ where
     let mut entries = vec![in heap; Offer {
         length: zero,
         cell: 0
-    }; 9 * CELLS]?;
+    }; ENTRIES_PER_CELL * CELLS]?;
     let counts = draft.measure(ruler, &cells, &groups, 1, &mut first, &mut entries)?;
     draft.measure(ruler, &cells, &groups, 2, &mut second, &mut entries)?;
     print!(rt; "{name}\t{}\t{}", counts.reached, counts.steps)?;
@@ -107,7 +113,7 @@ fn rectangle(first: (u16, u16), last: (u16, u16)) -> Rectangle {
 }
 
 // The cell of pad 1, and the upper right corner.
-fn corners() -> Result<Rectangles, Refusal> {
+fn corners() -> Result<Rectangles, gauges::Refusal> {
     let mut rectangles = Rectangles::new();
     rectangles.add(rectangle((0, 0), (0, 0)))?;
     rectangles.add(rectangle((0, 3), (0, 3)))?;
@@ -115,25 +121,25 @@ fn corners() -> Result<Rectangles, Refusal> {
 }
 
 // The third column, which parts the groups.
-fn third_column() -> Result<Rectangles, Refusal> {
+fn third_column() -> Result<Rectangles, gauges::Refusal> {
     let mut rectangles = Rectangles::new();
     rectangles.add(rectangle((0, 2), (255, 2)))?;
     Ok(rectangles)
 }
 
 fn measure_by_rulers(rt: &(impl Print + AllocGlobal)) -> Result<(), Stop> {
-    measure_by(rt, "chessboard", &WholeRuler(Chessboard))?;
-    measure_by(rt, "three-four 2", &WholeRuler(ThreeFour::new(2)?))?;
-    measure_by(rt, "euclid", &WholeRuler(Euclid))?;
+    measure_by(rt, "chessboard", &WholeRuler::new(Chessboard))?;
+    measure_by(rt, "three-four 2", &WholeRuler::new(ThreeFour::new(2)?))?;
+    measure_by(rt, "euclid", &WholeRuler::new(Euclid))?;
     measure_by(rt, "counted", &CountedChessboard)
 }
 
 fn measure_by_stacks(rt: &(impl Print + AllocGlobal)) -> Result<(), Stop> {
-    let weighted = Weighting::new(WholeRuler(Chessboard), 3)?;
+    let weighted = Weighting::new(WholeRuler::new(Chessboard), 3)?;
     measure_by(rt, "weighting 3 over chessboard", &weighted)?;
-    let fenced = Fence::new(WholeRuler(ThreeFour::new(2)?), corners()?);
+    let fenced = Fence::new(WholeRuler::new(ThreeFour::new(2)?), corners()?);
     measure_by(rt, "fence over three-four 2", &fenced)?;
-    let parted = Weighting::new(Fence::new(WholeRuler(Euclid), third_column()?), 2)?;
+    let parted = Weighting::new(Fence::new(WholeRuler::new(Euclid), third_column()?), 2)?;
     measure_by(rt, "weighting 2 over fence over euclid", &parted)?;
     let counted = Fence::new(Weighting::new(CountedChessboard, 16)?, corners()?);
     measure_by(rt, "fence over weighting 16 over counted", &counted)

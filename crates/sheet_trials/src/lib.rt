@@ -17,9 +17,9 @@ pub fn fault_of(sheet: &[u8]) -> Option<Fault> {
 #[cfg(test)]
 mod tests {
     use super::*;
-    use board::Refusal;
     use console::gap_line;
-    use sheets::{Place, Token};
+    use plate::Refusal::{Group, Off, Pad, Size, Tables};
+    use sheets::{Line, Place, Refusal, Token};
     use std::process::Abort;
     use std::test::Fail;
 
@@ -112,19 +112,37 @@ mod tests {
             0,
             Refusal::Line,
         ),
-        ("no rows", b"plate\t0\t3\n", 1, 1, Refusal::Size),
-        ("257 rows", b"plate\t257\t3\n", 1, 1, Refusal::Size),
-        ("no columns", b"plate\t2\t0\n", 1, 2, Refusal::Size),
-        ("257 columns", b"plate\t2\t257\n", 1, 2, Refusal::Size),
+        ("no rows", b"plate\t0\t3\n", 1, 1, Refusal::Plate(Size)),
+        ("257 rows", b"plate\t257\t3\n", 1, 1, Refusal::Plate(Size)),
+        ("no columns", b"plate\t2\t0\n", 1, 2, Refusal::Plate(Size)),
+        (
+            "257 columns",
+            b"plate\t2\t257\n",
+            1,
+            2,
+            Refusal::Plate(Size),
+        ),
         (
             "257 rows and no columns",
             b"plate\t257\t0\n",
             1,
             1,
-            Refusal::Size,
+            Refusal::Plate(Size),
         ),
-        ("65,535 columns", b"plate\t2\t65535\n", 1, 2, Refusal::Size),
-        ("ten cells in nine", b"plate\t2\t5\n", 1, 0, Refusal::Tables),
+        (
+            "65,535 columns",
+            b"plate\t2\t65535\n",
+            1,
+            2,
+            Refusal::Plate(Size),
+        ),
+        (
+            "ten cells in nine",
+            b"plate\t2\t5\n",
+            1,
+            0,
+            Refusal::Plate(Tables),
+        ),
         ("an empty figure", b"plate\t\t3\n", 1, 1, Refusal::Figure),
         (
             "an empty last figure",
@@ -150,63 +168,63 @@ mod tests {
             b"plate\t2\t3\ncell\t2\t0\t0\t0\n",
             2,
             1,
-            Refusal::Off,
+            Refusal::Plate(Off),
         ),
         (
             "a column off the plate",
             b"plate\t2\t3\ncell\t0\t3\t0\t0\n",
             2,
             2,
-            Refusal::Off,
+            Refusal::Plate(Off),
         ),
         (
             "row and column off the plate",
             b"plate\t2\t3\ncell\t2\t3\t0\t65\n",
             2,
             1,
-            Refusal::Off,
+            Refusal::Plate(Off),
         ),
         (
             "a barred row off the plate",
             b"plate\t2\t3\nbar\t65535\t0\n",
             2,
             1,
-            Refusal::Off,
+            Refusal::Plate(Off),
         ),
         (
             "a barred column off the plate",
             b"plate\t2\t3\nbar\t0\t3\n",
             2,
             2,
-            Refusal::Off,
+            Refusal::Plate(Off),
         ),
         (
             "pad 65 of a cell",
             b"plate\t2\t3\ncell\t0\t0\t0\t65\n",
             2,
             4,
-            Refusal::Pad,
+            Refusal::Plate(Pad),
         ),
         (
             "pad 0 enrolled",
             b"plate\t2\t3\nenrol\t0\t1\n",
             2,
             1,
-            Refusal::Pad,
+            Refusal::Plate(Pad),
         ),
         (
             "pad 65 enrolled",
             b"plate\t2\t3\nenrol\t65\t3\n",
             2,
             1,
-            Refusal::Pad,
+            Refusal::Plate(Pad),
         ),
         (
             "group 3",
             b"plate\t2\t3\nenrol\t1\t3\n",
             2,
             2,
-            Refusal::Group,
+            Refusal::Plate(Group),
         ),
         (
             "no row",
@@ -334,14 +352,14 @@ mod tests {
             b"plate\t2\t3\nbar\t0\t9\nx\n",
             2,
             2,
-            Refusal::Off,
+            Refusal::Plate(Off),
         ),
         (
             "a third line",
             b"plate\t2\t3\nbar\t0\t0\nbar\t2\t0\n",
             3,
             1,
-            Refusal::Off,
+            Refusal::Plate(Off),
         ),
     ];
 
@@ -393,7 +411,7 @@ mod tests {
         let fault = Fault {
             line: 4,
             field: 2,
-            refusal: Refusal::Off,
+            refusal: Refusal::Plate(Off),
         };
         assert_eq!(rt;
             read_sheet(sheet, &mut cells, &mut groups).err(),
@@ -424,6 +442,47 @@ mod tests {
             place,
         };
         assert_eq!(rt; figure.keyword(), Err(at(Refusal::Line)));
+    }
+
+    // What a token has: whether it is a word, its bytes and its place.
+    fn parts_of(token: Token<'_>) -> (bool, &[u8], Place) {
+        match token {
+            Token::Word { bytes, place } => (true, bytes, place),
+            Token::Figure { bytes, place } => (false, bytes, place),
+        }
+    }
+
+    // A line of another reader of lines, with a word and a figure of no byte.
+    #[test]
+    fn fields_are_tokens(rt: HostRuntime) {
+        let mut line = Line::new(b"way\t12\t\t7", 4);
+        for (field, bytes, tabs) in [
+            (0, b"way".as_slice(), 3),
+            (1, b"12", 2),
+            (2, b"", 1),
+            (3, b"7", 0),
+        ] {
+            assert_eq!(rt; line.tabs(), tabs);
+            let place = Place { line: 4, field };
+            let parts = line.token().map(|token| parts_of(token));
+            assert_eq!(rt; parts, Some((field == 0, bytes, place)));
+        }
+        assert_eq!(rt; line.tabs(), 0);
+        assert!(rt; line.token().is_none());
+    }
+
+    // A line of 300 empty fields: the number stays at 255.
+    #[test]
+    fn fields_are_numbered_up_to_255(rt: HostRuntime) {
+        let tabs = [b'\t'; 299];
+        let mut line = Line::new(&tabs, 1);
+        for number in 0..300usize {
+            let field = number.min(255) as u8;
+            let place = Place { line: 1, field };
+            let parts = line.token().map(|token| parts_of(token));
+            assert_eq!(rt; parts, Some((number == 0, b"".as_slice(), place)));
+        }
+        assert!(rt; line.token().is_none());
     }
 
     fn check_line(rt: &impl Abort, sheet: &[u8], line: &str) {

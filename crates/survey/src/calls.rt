@@ -1,7 +1,7 @@
 // A line of a call: its word and its figures.
-use board::Refusal;
+use plate::Edit;
 use runs::{Call, RulerCall};
-use sheets::{Edit, Fault, Keyword, Place, Token};
+use sheets::{Fault, Keyword, Line, Place, Refusal, Token};
 
 // The words of lines: those of a sheet, and those of the other calls.
 #[derive(Clone, Copy, PartialEq, Eq)]
@@ -52,17 +52,17 @@ impl Word {
             Word::Gap => return Some(RulerCall::Gap),
             Word::Route => return Some(RulerCall::Route { room }),
             Word::Sheet(Keyword::Plate) => return None,
-            Word::Sheet(Keyword::Cell) => Call::Set {
+            Word::Sheet(Keyword::Cell) => Call::Edit(Edit::Set {
                 row,
                 column,
                 height,
                 pad,
-            },
-            Word::Sheet(Keyword::Bar) => Call::Bar { row, column },
-            Word::Sheet(Keyword::Enrol) => Call::Enrol {
+            }),
+            Word::Sheet(Keyword::Bar) => Call::Edit(Edit::Bar { row, column }),
+            Word::Sheet(Keyword::Enrol) => Call::Edit(Edit::Enrol {
                 pad: first,
                 group: second,
-            },
+            }),
             Word::Measure => Call::Measure { group: first },
             Word::Distance => Call::Distance { row, column, group },
             Word::Nearest => Call::Nearest { row, column, group },
@@ -79,28 +79,17 @@ impl Word {
     }
 }
 
-// The call of a sheet's line.
-pub fn call_of(edit: Edit) -> Call {
-    match edit {
-        Edit::Cell {
-            row,
-            column,
-            height,
-            pad,
-        } => Call::Set {
-            row,
-            column,
-            height,
-            pad,
-        },
-        Edit::Bar { row, column } => Call::Bar { row, column },
-        Edit::Enrol { pad, group } => Call::Enrol { pad, group },
+// The word of a line, if it is one.
+fn word_of(token: Option<Token<'_>>) -> Option<Word> {
+    match token {
+        Some(Token::Word { bytes, .. }) => Word::of(bytes),
+        _ => None,
     }
 }
 
-// Reads a line: 11 comes first, then 13 where no plate is open or a plate line comes again, then 12 for each figure.
+/// Reads a line: 11 comes first, then 13 where no plate is open or a plate line comes again, then 12 for each figure.
 pub fn read_call(
-    line: &[u8],
+    bytes: &[u8],
     ended: bool,
     number: usize,
     opened: bool,
@@ -109,9 +98,9 @@ pub fn read_call(
         line: number,
         field: 0,
     };
-    let mut fields = line.split(|byte| *byte == b'\t');
-    let word = fields.next().and_then(|field| Word::of(field));
-    let tabs = line.iter().filter(|byte| **byte == b'\t').count();
+    let mut line = Line::new(bytes, number);
+    let tabs = line.tabs();
+    let word = word_of(line.token());
     let Some(word) = word.filter(|word| ended && word.figures() == tabs) else {
         return Err(Fault::at(place, Refusal::Line));
     };
@@ -119,10 +108,11 @@ pub fn read_call(
         return Err(Fault::at(place, Refusal::Order));
     }
     let mut figures = [0u16; 4];
-    let mut place = place;
-    for (slot, bytes) in figures.iter_mut().zip(fields) {
-        place.field = place.field.saturating_add(1);
-        *slot = Token::Figure { bytes, place }.figure()?;
+    for slot in &mut figures {
+        let Some(token) = line.token() else {
+            break;
+        };
+        *slot = token.figure()?;
     }
     word.call(figures).ok_or(Fault::at(place, Refusal::Order))
 }

@@ -6,10 +6,11 @@ mod calls;
 mod output;
 mod script;
 
-use board::{Cell, MapRecord};
+use board::{Cell, Dimensions, MapRecord, PADS};
 use ending::{Stop, finish, read_input};
 use gauges::{Chessboard, WholeRuler};
 use lengths::Whole;
+use measuring::ENTRIES_PER_CELL;
 use output::{print_answer, print_call};
 use queue::Offer;
 use runs::{Answer, RulerCall, Space, Tables, run_by_ruler};
@@ -30,15 +31,15 @@ fn print_run(rt: &impl Print, calls: &[RulerCall], answers: &[Answer<Whole>]) ->
 
 // Makes the calls on the plate, over tables of their own.
 fn run_script(rt: &(impl Print + AllocGlobal), script: &Script) -> Result<(), Stop> {
-    let Some((rows, columns)) = script.size else {
+    let Some(dimensions) = script.dimensions else {
         return Ok(());
     };
     let heap = rt.alloc();
     let mut cells = vec![in heap; Cell::BARE; CELLS]?;
-    let mut groups = [0u8; 64];
+    let mut groups = [0u8; PADS];
     let mut first = vec![in heap; MapRecord::unreached(0); CELLS]?;
     let mut second = vec![in heap; MapRecord::unreached(0); CELLS]?;
-    let mut entries = vec![in heap; Offer { length: 0, cell: 0 }; 9 * CELLS]?;
+    let mut entries = vec![in heap; Offer { length: 0, cell: 0 }; ENTRIES_PER_CELL * CELLS]?;
     let tables = Tables {
         cells: &mut cells,
         groups: &mut groups,
@@ -46,8 +47,9 @@ fn run_script(rt: &(impl Print + AllocGlobal), script: &Script) -> Result<(), St
         second: &mut second,
         entries: &mut entries,
     };
-    let space = Space::reserve(heap, rows, columns, &script.calls)?;
-    let answers = run_by_ruler(&WholeRuler(Chessboard), space, tables)?;
+    let space = Space::reserve(heap, dimensions, &script.calls)?;
+    let answers = run_by_ruler(&WholeRuler::new(Chessboard), space, tables)?;
+    let Dimensions { rows, columns } = dimensions;
     println!(rt; "plate\t{rows}\t{columns}\topened")?;
     print_run(rt, &script.calls, &answers)?;
     Ok(())
@@ -57,7 +59,7 @@ fn run_script(rt: &(impl Print + AllocGlobal), script: &Script) -> Result<(), St
 fn survey(rt: &(impl Print + AllocGlobal), input: &[u8]) -> Result<(), Stop> {
     let mut script = Script::new(rt.alloc());
     let outcome = script.read(rt.alloc(), input);
-    if let Err(Stop::System(_) | Stop::Refused(_)) = outcome {
+    if let Err(Stop::System(_) | Stop::Refused(_) | Stop::Setting(_)) = outcome {
         return outcome;
     }
     run_script(rt, &script)?;

@@ -1,9 +1,10 @@
 // The line that is printed for a call and its answer.
 use lengths::Whole;
+use plate::Edit;
 use runs::{Answer, Call, RulerCall};
 use std::io;
 
-// The word of a call and its figures.
+/// The word of a call and its figures.
 pub fn print_call(rt: &impl Print, call: RulerCall) -> io::Result<()> {
     match call {
         RulerCall::Gap => print!(rt; "gap"),
@@ -14,14 +15,7 @@ pub fn print_call(rt: &impl Print, call: RulerCall) -> io::Result<()> {
 
 fn print_plain(rt: &impl Print, call: Call) -> io::Result<()> {
     match call {
-        Call::Set {
-            row,
-            column,
-            height,
-            pad,
-        } => print!(rt; "cell\t{row}\t{column}\t{height}\t{pad}"),
-        Call::Bar { row, column } => print!(rt; "bar\t{row}\t{column}"),
-        Call::Enrol { pad, group } => print!(rt; "enrol\t{pad}\t{group}"),
+        Call::Edit(edit) => print_edit(rt, edit),
         Call::Measure { group } => print!(rt; "measure\t{group}"),
         Call::Distance { row, column, group } => print!(rt; "distance\t{row}\t{column}\t{group}"),
         Call::Nearest { row, column, group } => print!(rt; "nearest\t{row}\t{column}\t{group}"),
@@ -36,19 +30,32 @@ fn print_plain(rt: &impl Print, call: Call) -> io::Result<()> {
     }
 }
 
+fn print_edit(rt: &impl Print, edit: Edit) -> io::Result<()> {
+    match edit {
+        Edit::Set {
+            row,
+            column,
+            height,
+            pad,
+        } => print!(rt; "cell\t{row}\t{column}\t{height}\t{pad}"),
+        Edit::Bar { row, column } => print!(rt; "bar\t{row}\t{column}"),
+        Edit::Enrol { pad, group } => print!(rt; "enrol\t{pad}\t{group}"),
+    }
+}
+
 // What was done by a call that has nothing else to say.
 fn done(call: RulerCall) -> &'static str {
     match call {
-        RulerCall::Plain(Call::Set { .. }) => "set",
-        RulerCall::Plain(Call::Bar { .. }) => "barred",
-        RulerCall::Plain(Call::Enrol { .. }) => "enrolled",
+        RulerCall::Plain(Call::Edit(Edit::Set { .. })) => "set",
+        RulerCall::Plain(Call::Edit(Edit::Bar { .. })) => "barred",
+        RulerCall::Plain(Call::Edit(Edit::Enrol { .. })) => "enrolled",
         RulerCall::Plain(Call::Seal) => "sealed",
         RulerCall::Plain(Call::Break) => "broken",
         _ => "done",
     }
 }
 
-// The answer, behind the call.
+/// The answer, behind the call.
 pub fn print_answer(rt: &impl Print, call: RulerCall, answer: &Answer<Whole>) -> io::Result<()> {
     match answer {
         Answer::Done => print!(rt; "\t{}", done(call)),

@@ -1,25 +1,28 @@
 // What the input asks for: a plate, and calls on it up to the first fault.
 ghost use Rattle.std.specs.Prelude.{◌≤◌, length};
 
-use crate::calls::{call_of, read_call};
-use board::{Cell, Refusal};
+use crate::calls::read_call;
+use board::{Cell, Dimensions, PADS};
 use ending::Stop;
-use runs::RulerCall;
+use runs::{Call, RulerCall};
 use sheets::lines::LONGEST;
-use sheets::{Fault, Keyword, SheetReader, open_plate};
+use sheets::{Fault, Line, Refusal, SheetReader, make_edit, open_plate};
 use std::alloc::{AllocError, Global};
 
-// The plate's rows and columns once its line is read, the calls so far, and how many lines they took.
+/// What the plate is opened with once its line is read, the calls so far, and how many lines they took.
 #[derive(Drop)]
 pub struct Script {
-    pub size: Option<(u16, u16)>,
+    pub dimensions: Option<Dimensions>,
     pub calls: Vec<RulerCall>,
     lines: usize,
 }
 
-// The first field of a line.
-fn word(line: &[u8]) -> &[u8] {
-    line.split(|byte| *byte == b'\t').next().unwrap_or(&[])
+// Whether a line begins with a word of a sheet's lines.
+fn is_of_sheet(line: &[u8]) -> bool {
+    match Line::new(line, 0).token() {
+        Some(word) => word.keyword().is_ok(),
+        None => false,
+    }
 }
 
 // Where the sheet ends: before the first line with another word than a sheet's.
@@ -28,7 +31,7 @@ fn sheet_end(input: &[u8]) -> usize
 {
     let mut end = 0usize;
     for line in input.split(|byte| *byte == b'\n') {
-        if Keyword::try_from(word(line)).is_err() {
+        if !is_of_sheet(line) {
             break;
         }
         end = end.saturating_add(line.len()).saturating_add(1);
@@ -39,13 +42,13 @@ fn sheet_end(input: &[u8]) -> usize
 impl Script {
     pub fn new(heap: Global) -> Script {
         Script {
-            size: None,
+            dimensions: None,
             calls: Vec::new(heap),
             lines: 0,
         }
     }
 
-    // Reads the sheet, and then the lines of calls.
+    /// Reads the sheet, and then the lines of calls.
     pub fn read(&mut self, heap: Global, input: &[u8]) -> Result<(), Stop> {
         // The whole input is no longer than a sheet may be.
         if input.len() > LONGEST {
@@ -66,15 +69,15 @@ impl Script {
     // Reads the sheet's lines, each of which is judged as the plate would answer it.
     fn read_sheet(&mut self, heap: Global, sheet: &[u8]) -> Result<(), Stop> {
         let mut cells = vec![in heap; Cell::BARE; crate::CELLS]?;
-        let mut groups = [0u8; 64];
+        let mut groups = [0u8; PADS];
         let mut reader = SheetReader::new(sheet);
-        let (rows, columns) = reader.plate_line()?;
-        let mut draft = open_plate(rows, columns, &mut cells, &mut groups)?;
-        self.size = Some((rows, columns));
+        let dimensions = reader.plate_line()?;
+        let mut draft = open_plate(dimensions, &mut cells, &mut groups)?;
+        self.dimensions = Some(dimensions);
         while let Some(edit) = reader.next_edit()? {
-            edit.carry_out(reader.line(), &mut draft, &mut cells, &mut groups)?;
+            make_edit(edit, reader.line(), &mut draft, &mut cells, &mut groups)?;
             self.calls
-                .push(RulerCall::Plain(call_of(edit)))
+                .push(RulerCall::Plain(Call::Edit(edit)))
                 .map_err(AllocError::from)?;
         }
         self.lines = reader.line();
@@ -89,7 +92,7 @@ impl Script {
                 break;
             }
             let number = self.lines.saturating_add(at).saturating_add(1);
-            let call = read_call(line, at < ends, number, self.size.is_some())?;
+            let call = read_call(line, at < ends, number, self.dimensions.is_some())?;
             self.calls.push(call).map_err(AllocError::from)?;
         }
         Ok(())
@@ -114,7 +117,13 @@ mod tests {
         (b"", 0, 1, 0, Refusal::Order),
         (b"gap\n", 0, 1, 0, Refusal::Order),
         (b"bar\t0\t0\n", 0, 1, 0, Refusal::Order),
-        (b"plate\t1\t1\nbar\t0\t1\nseal\n", 0, 2, 2, Refusal::Off),
+        (
+            b"plate\t1\t1\nbar\t0\t1\nseal\n",
+            0,
+            2,
+            2,
+            Refusal::Plate(plate::Refusal::Off),
+        ),
         (
             b"plate\t1\t1\nbar\t0\t0\ngap\nbar\t9\t9\nway\t0\n",
             3,

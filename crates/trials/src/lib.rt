@@ -1,32 +1,40 @@
 // Small boards, read from sheets and measured by chessboard, with the answers that they should have.
 #![tactic(auto)]
 
-use board::{Cell, MapRecord, Refusal};
+use board::{Cell, MapRecord, PADS};
 use gauges::{Chessboard, WholeRuler};
-use measuring::Counts;
+use measuring::{Counts, ENTRIES_PER_CELL};
 use plate::{Draft, Readings};
 use queue::Offer;
-use sheets::{Fault, read_sheet};
+use sheets::{Fault, Refusal, read_sheet};
 
-// How many cells the tables of a trial hold.
+/// How many cells the tables of a trial hold.
 pub const CELLS: usize = 9;
 
+/// An open cell of height 0 with no pad.
 pub const BARE: Cell = Cell::BARE;
 
-// What measuring both groups of a board came to.
+/// What measuring both groups of a board came to.
 #[derive(Clone, Copy, Debug, PartialEq, Eq)]
 pub struct Outcome {
+    /// The counts of group 1.
     pub first: Counts,
+    /// The counts of group 2.
     pub second: Counts,
+    /// The gap in units of the chessboard ruler, or none where no cell has both distances.
     pub gap: Option<u64>,
 }
 
-// Measures both groups of an open plate.
-pub fn measure_both(draft: &mut Draft, cells: &[Cell], groups: &[u8]) -> Result<Outcome, Refusal> {
+/// Measures both groups of an open plate of up to nine cells. Sent back: 2, also where the plate has more.
+pub fn measure_both(
+    draft: &mut Draft,
+    cells: &[Cell],
+    groups: &[u8],
+) -> Result<Outcome, plate::Refusal> {
     let mut first = [MapRecord::unreached(0); CELLS];
     let mut second = [MapRecord::unreached(0); CELLS];
-    let mut entries = [Offer { length: 0, cell: 0 }; 81];
-    let ruler = WholeRuler(Chessboard);
+    let mut entries = [Offer { length: 0, cell: 0 }; ENTRIES_PER_CELL * CELLS];
+    let ruler = WholeRuler::new(Chessboard);
     let mut measure = |group: u16, map: &mut [MapRecord<u64>]| {
         draft.measure(&ruler, cells, groups, group, map, &mut entries)
     };
@@ -40,21 +48,22 @@ pub fn measure_both(draft: &mut Draft, cells: &[Cell], groups: &[u8]) -> Result<
     })
 }
 
-// Reads a sheet and measures its board.
+/// Reads a sheet of up to nine cells and measures its board; a fault of measuring has line 0.
 pub fn measure_sheet(sheet: &[u8]) -> Result<Outcome, Fault> {
     let mut cells = [BARE; CELLS];
-    let mut groups = [0; 64];
+    let mut groups = [0; PADS];
     let mut draft = read_sheet(sheet, &mut cells, &mut groups)?;
     measure_both(&mut draft, &cells, &groups).map_err(|refusal| Fault {
         line: 0,
         field: 0,
-        refusal,
+        refusal: Refusal::Plate(refusal),
     })
 }
 
 #[cfg(test)]
 mod tests {
     use super::*;
+    use board::Dimensions;
     use std::test::Fail;
 
     const NONE: Counts = Counts {
@@ -145,27 +154,27 @@ mod tests {
         );
         assert_eq!(rt;
             measure_sheet(b"plate\t257\t0\n"),
-            fault(1, 1, Refusal::Size),
+            fault(1, 1, Refusal::Plate(plate::Refusal::Size)),
             "257 rows"
         );
         assert_eq!(rt;
             measure_sheet(b"plate\t2\t0\n"),
-            fault(1, 2, Refusal::Size),
+            fault(1, 2, Refusal::Plate(plate::Refusal::Size)),
             "no columns"
         );
         assert_eq!(rt;
             measure_sheet(b"plate\t2\t5\n"),
-            fault(1, 0, Refusal::Tables),
+            fault(1, 0, Refusal::Plate(plate::Refusal::Tables)),
             "ten cells in nine"
         );
         assert_eq!(rt;
             measure_sheet(b"plate\t2\t3\ncell\t0\t3\t0\t1\n"),
-            fault(2, 2, Refusal::Off),
+            fault(2, 2, Refusal::Plate(plate::Refusal::Off)),
             "a column off the plate"
         );
         assert_eq!(rt;
             measure_sheet(b"plate\t2\t3\ncell\t0\t2\t0\t65\n"),
-            fault(2, 4, Refusal::Pad),
+            fault(2, 4, Refusal::Plate(plate::Refusal::Pad)),
             "pad 65"
         );
         assert_eq!(rt;
@@ -180,7 +189,7 @@ mod tests {
         );
         assert_eq!(rt;
             measure_sheet(b"plate\t2\t3\nenrol\t1\t3\n"),
-            fault(2, 2, Refusal::Group),
+            fault(2, 2, Refusal::Plate(plate::Refusal::Group)),
             "group 3"
         );
     }
@@ -189,22 +198,36 @@ mod tests {
     #[test]
     fn calls_are_sent_back(rt: HostRuntime) -> Result<(), Fail> {
         let mut cells = [BARE; CELLS];
-        let mut groups = [0; 64];
-        assert!(rt; Draft::open(257, 1, &mut cells, &mut groups).is_err());
-        let mut draft = Draft::open(2, 3, &mut cells, &mut groups)?;
-        assert_eq!(rt; draft.set(&mut cells, 2, 0, 0, 0), Err(Refusal::Off));
-        assert_eq!(rt; draft.set(&mut cells, 0, 0, 0, 65), Err(Refusal::Pad));
+        let mut groups = [0; PADS];
+        let tall = Dimensions {
+            rows: 257,
+            columns: 1,
+        };
+        assert!(rt; Draft::open(tall, &mut cells, &mut groups).is_err());
+        let flat = Dimensions {
+            rows: 2,
+            columns: 3,
+        };
+        let mut draft = Draft::open(flat, &mut cells, &mut groups)?;
+        assert_eq!(rt; draft.set(&mut cells, 2, 0, 0, 0), Err(plate::Refusal::Off));
+        assert_eq!(rt;
+            draft.set(&mut cells, 0, 0, 0, 65),
+            Err(plate::Refusal::Pad)
+        );
         assert_eq!(rt;
             draft.set(&mut cells[0..5], 9, 9, 9, 99),
-            Err(Refusal::Tables)
+            Err(plate::Refusal::Tables)
         );
-        assert_eq!(rt; draft.bar(&mut cells, 0, 3), Err(Refusal::Off));
-        assert_eq!(rt; draft.enrol(&mut groups, 0, 3), Err(Refusal::Pad));
-        assert_eq!(rt; draft.enrol(&mut groups, 1, 3), Err(Refusal::Group));
-        assert_eq!(rt; draft.enrol(&mut groups[0..63], 1, 1), Err(Refusal::Tables));
+        assert_eq!(rt; draft.bar(&mut cells, 0, 3), Err(plate::Refusal::Off));
+        assert_eq!(rt; draft.enrol(&mut groups, 0, 3), Err(plate::Refusal::Pad));
+        assert_eq!(rt; draft.enrol(&mut groups, 1, 3), Err(plate::Refusal::Group));
+        assert_eq!(rt;
+            draft.enrol(&mut groups[0..63], 1, 1),
+            Err(plate::Refusal::Tables)
+        );
         let map = [MapRecord::unreached(0); CELLS];
         assert!(rt;
-            draft.gap(&WholeRuler(Chessboard), &map, &map).is_err(),
+            draft.gap(&WholeRuler::new(Chessboard), &map, &map).is_err(),
             "nothing is measured yet"
         );
         assert_eq!(rt; draft.set(&mut cells, 1, 2, 4, 64), Ok(()));

@@ -1,5 +1,4 @@
 pub mod Boards
-pub mod Parts
 pub mod Limits
 pub mod Examples
 pub mod Refusals
@@ -7,5 +6,7 @@ pub mod Sheets
 pub mod Tampered
 pub mod Fields
 pub mod Orders
+pub mod Parts
 pub mod SheetOrders
+pub mod LineFields
 pub mod Sums

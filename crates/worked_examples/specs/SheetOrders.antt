@@ -1,11 +1,12 @@
 -- Where several numbers apply to a sheet or to one of its lines, which one is answered, with its line and field. Assumes nothing.
 use Rattle.std.specs.Prelude.{◌≡◌, ℕ, List, [], ◌∷◌, ◌++◌, map, replicate, cond, ◌==◌, Some, None, Ok, Err, Option, Result}
 use lib.Chars.{codes}
-use Rattle.board.specs.declared.refusal.Refusal.TheVariants.{Size, Tables, Off, Pad, Group, Line, Figure, Order, Long}
-use Rattle.plate.specs.Edits.{bare_cell}
+use Rattle.board.specs.Tables.{bare_cell}
+use Rattle.plate.specs.declared.refusal.Refusal.TheVariants.{Size, Tables, Off, Pad, Group}
 use Rattle.sheets.specs.Lines.{edit_next, fault_at, plate_asked}
 use Rattle.sheets.specs.Reading.{reading}
 use Rattle.sheets.specs.declared.fault.Fault.{Fault}
+use Rattle.sheets.specs.declared.refusal.Refusal.TheVariants.{Plate, Line, Figure, Order, Long}
 
 -- a text with a tab for each space, and as a line with its end
 abbrev pub tabbed : List ℕ → List ℕ
@@ -64,10 +65,10 @@ pub record SheetOrders : Type 0 where
   pub first_line_and_figure : first_lines (line (codes "plate x")) ≡ Some (fault_at 1 0 Line)
   pub first_two_figures : first_lines (line (codes "plate x y")) ≡ Some (fault_at 1 1 Figure)
   pub first_figure_and_size : first_lines (line (codes "plate 0 x")) ≡ Some (fault_at 1 2 Figure)
-  pub first_size_and_tables : first_lines (line (codes "plate 1 257")) ≡ Some (fault_at 1 2 Size)
-  pub first_both_sizes : first_lines (line (codes "plate 0 0")) ≡ Some (fault_at 1 1 Size)
-  pub first_tables_and_later_line : fault_in 5 (line (codes "plate 2 3") ++ line (codes "word")) ≡ Some (fault_at 1 0 Tables)
-  pub first_size_and_later_line : first_lines (line (codes "plate 0 3") ++ codes "word") ≡ Some (fault_at 1 1 Size)
+  pub first_size_and_tables : first_lines (line (codes "plate 1 257")) ≡ Some (fault_at 1 2 (Plate Size))
+  pub first_both_sizes : first_lines (line (codes "plate 0 0")) ≡ Some (fault_at 1 1 (Plate Size))
+  pub first_tables_and_later_line : fault_in 5 (line (codes "plate 2 3") ++ line (codes "word")) ≡ Some (fault_at 1 0 (Plate Tables))
+  pub first_size_and_later_line : first_lines (line (codes "plate 0 3") ++ codes "word") ≡ Some (fault_at 1 1 (Plate Size))
   pub second_plate_and_fields : later_lines (line (codes "plate 2")) ≡ Some (fault_at 2 0 Line)
   pub second_plate_and_no_end : later_lines (tabbed (codes "plate 2 3")) ≡ Some (fault_at 2 0 Line)
   pub second_plate_and_figures : later_lines (line (codes "plate x y")) ≡ Some (fault_at 2 0 Order)
@@ -82,13 +83,14 @@ pub record SheetOrders : Type 0 where
   pub figure_and_off : later_lines (line (codes "cell 2 0 0 x")) ≡ Some (fault_at 2 4 Figure)
   pub figure_and_bar_off : later_lines (line (codes "bar 2 x")) ≡ Some (fault_at 2 2 Figure)
   pub figure_and_pad : later_lines (line (codes "enrol 65 x")) ≡ Some (fault_at 2 2 Figure)
-  pub row_off_and_pad : later_lines (line (codes "cell 2 0 0 65")) ≡ Some (fault_at 2 1 Off)
-  pub column_off_and_pad : later_lines (line (codes "cell 0 3 0 65")) ≡ Some (fault_at 2 2 Off)
-  pub both_off : later_lines (line (codes "bar 2 3")) ≡ Some (fault_at 2 1 Off)
-  pub pad_and_group : later_lines (line (codes "enrol 65 3")) ≡ Some (fault_at 2 1 Pad)
-  pub no_pad_and_group : later_lines (line (codes "enrol 0 3")) ≡ Some (fault_at 2 1 Pad)
-  pub group_alone : later_lines (line (codes "enrol 64 3")) ≡ Some (fault_at 2 2 Group)
-  pub earlier_line_goes_first : later_lines (line (codes "enrol 1 3") ++ line (codes "word")) ≡ Some (fault_at 2 2 Group)
+  pub figure_and_group : later_lines (line (codes "enrol x 3")) ≡ Some (fault_at 2 1 Figure)
+  pub row_off_and_pad : later_lines (line (codes "cell 2 0 0 65")) ≡ Some (fault_at 2 1 (Plate Off))
+  pub column_off_and_pad : later_lines (line (codes "cell 0 3 0 65")) ≡ Some (fault_at 2 2 (Plate Off))
+  pub both_off : later_lines (line (codes "bar 2 3")) ≡ Some (fault_at 2 1 (Plate Off))
+  pub pad_and_group : later_lines (line (codes "enrol 65 3")) ≡ Some (fault_at 2 1 (Plate Pad))
+  pub no_pad_and_group : later_lines (line (codes "enrol 0 3")) ≡ Some (fault_at 2 1 (Plate Pad))
+  pub group_alone : later_lines (line (codes "enrol 64 3")) ≡ Some (fault_at 2 2 (Plate Group))
+  pub earlier_line_goes_first : later_lines (line (codes "enrol 1 3") ++ line (codes "word")) ≡ Some (fault_at 2 2 (Plate Group))
   pub earlier_figure_goes_first : later_lines (line (codes "bar 0 x") ++ line (codes "plate 2 3")) ≡ Some (fault_at 2 2 Figure)
-  pub earlier_line_before_no_end : later_lines (line (codes "bar 2 0") ++ codes "bar") ≡ Some (fault_at 2 1 Off)
-  pub third_line : later_lines (line (codes "bar 0 0") ++ line (codes "cell 0 0 0 65")) ≡ Some (fault_at 3 4 Pad)
+  pub earlier_line_before_no_end : later_lines (line (codes "bar 2 0") ++ codes "bar") ≡ Some (fault_at 2 1 (Plate Off))
+  pub third_line : later_lines (line (codes "bar 0 0") ++ line (codes "cell 0 0 0 65")) ≡ Some (fault_at 3 4 (Plate Pad))

@@ -24,7 +24,8 @@ sheet = plate_line ++ board_lines
 
 -- the same with a cell off the plate in its second line
 abbrev pub sheet_at_fault : List ℕ
-sheet_at_fault = plate_line ++ codes "cell" ++ figures (codes "0" ∷ codes "3" ∷ codes "0" ∷ codes "1" ∷ []) ++ board_lines
+sheet_at_fault =
+    plate_line ++ codes "cell" ++ figures (codes "0" ∷ codes "3" ∷ codes "0" ∷ codes "1" ∷ []) ++ board_lines
 
 -- pad 65 on a cell in its third line
 abbrev pub sheet_of_pad_65 : List ℕ
@@ -40,7 +41,8 @@ abbrev pub none_printed : List ℕ
 none_printed = codes "gap" ++ figures (codes "none" ∷ [])
 
 abbrev pub fault_printed : List ℕ
-fault_printed = codes "fault" ++ (9 ∷ codes "plate") ++ figures (codes "2" ∷ codes "2" ∷ codes "3" ∷ [])
+fault_printed =
+    codes "fault" ++ (9 ∷ codes "plate") ++ figures (codes "2" ∷ codes "2" ∷ codes "3" ∷ [])
 
 abbrev pub pad_printed : List ℕ
 pad_printed = codes "fault" ++ (9 ∷ codes "plate") ++ figures (codes "3" ∷ codes "4" ∷ codes "4" ∷ [])

@@ -1,16 +1,15 @@
 -- What tables of any content are read as: torn and odd ways, bad pads and rows, bad group bytes, walls with a height. Assumes nothing.
 use Rattle.std.specs.Prelude.{◌≡◌, ℕ, List, [], ◌∷◌, Some, None, Ok, Err, Option, Result, replicate, true, false}
-use Rattle.board.specs.Tables.{source_pad}
+use Rattle.board.specs.Tables.{bare_cell, barred_cell, source_pad}
 use Rattle.board.specs.declared.cell.Cell.{Cell}
 use Rattle.board.specs.declared.record.MapRecord.{MapRecord}
-use Rattle.board.specs.declared.refusal.Refusal.{Refusal}
-use Rattle.board.specs.declared.refusal.Refusal.TheVariants.{Short, Torn}
+use Rattle.plate.specs.declared.refusal.Refusal.{Refusal}
+use Rattle.plate.specs.declared.refusal.Refusal.TheVariants.{Short, Torn}
 use Rattle.gauges.specs.Rulers.{chessboard_units}
-use Rattle.lengths.specs.Counteds.{counted_kind, counted_rows}
-use Rattle.lengths.specs.Wholes.{whole_kind, whole_rows, whole_sum}
+use Rattle.lengths.specs.Counteds.{counted_kind}
+use Rattle.lengths.specs.Wholes.{whole_kind, whole_sum}
 use Rattle.lengths.specs.declared.counted_row.CountedRow.{CountedRow}
-use Rattle.measuring.specs.Readings.{distance_at, least_sum, nearest_at}
-use Rattle.plate.specs.Edits.{barred_cell, bare_cell}
+use Rattle.measuring.specs.MapReadings.{distance_at, least_sum, nearest_at}
 use Rattle.plate.specs.Readings.{how_many_of, way_cells, written}
 use Rattle.worked_examples.specs.Boards.{apart, board, counts, gap, map_of, parts, parted, ranked, size_1_1, size_1_3, spot, units, unreached}
 use Rattle.worked_examples.specs.Limits.{measured}
@@ -24,7 +23,7 @@ astray = linked 3
 
 -- the way from a cell of a plate of 1 × 3 in this map, into a list of so many cells
 abbrev pub way_in : List (MapRecord ℕ) → ℕ → ℕ → Result (List ℕ) Refusal
-way_in map column room = way_cells whole_kind whole_rows measured map 0 column 1 room
+way_in map column room = way_cells whole_kind measured map 0 column 1 room
 
 -- a link that leaves the plate, with a reached record behind the needed ones; a link to an unreached cell; and circles of one, two and three steps
 abbrev pub leaving : List (MapRecord ℕ)
@@ -59,17 +58,18 @@ unreached_last = linked 0 ∷ linked 0 ∷ written_into ∷ []
 
 -- the pad and the distance that a reached record with these is read as
 abbrev pub pad_read : ℕ → Option ℕ
-pad_read pad = nearest_at whole_kind whole_rows (ranked 4 pad 0 0 ∷ []) 0
+pad_read pad = nearest_at whole_kind (ranked 4 pad 0 0 ∷ []) 0
 
 abbrev pub counted_record : ℕ → ℕ → MapRecord CountedRow
-counted_record n m = record { length = record { units = n; steps = m }; reached = true; pad = 1; link = 0; rank = 0 }
+counted_record n m =
+    record { length = record { units = n; steps = m }; reached = true; pad = 1; link = 0; rank = 0 }
 
 abbrev pub counted_read : ℕ → ℕ → Option (ℕ × ℕ)
-counted_read n m = parts (distance_at counted_kind counted_rows (counted_record n m ∷ []) 0)
+counted_read n m = parts (distance_at counted_kind (counted_record n m ∷ []) 0)
 
 -- the gap of one cell with these two records
 abbrev pub gap_read : MapRecord ℕ → MapRecord ℕ → Option ℕ
-gap_read first second = units (least_sum whole_kind whole_rows whole_sum (first ∷ []) (second ∷ []) 1)
+gap_read first second = units (least_sum whole_kind whole_sum (first ∷ []) (second ∷ []) 1)
 
 abbrev pub greatest : ℕ
 greatest = 18446744073709551615
@@ -100,8 +100,8 @@ pub record Tampered : Type 0 where
   pub pad_64 : pad_read 64 ≡ Some 64
   pub pad_65 : pad_read 65 ≡ Some 0
   pub pad_255 : pad_read 255 ≡ Some 0
-  pub unreached_pad : nearest_at whole_kind whole_rows unreached_last 2 ≡ None
-  pub unreached_distance : units (distance_at whole_kind whole_rows unreached_last 2) ≡ None
+  pub unreached_pad : nearest_at whole_kind unreached_last 2 ≡ None
+  pub unreached_distance : units (distance_at whole_kind unreached_last 2) ≡ None
   pub fair_row : counted_read 2 2 ≡ Some (2, 2)
   pub bad_row : counted_read 2 3 ≡ Some (0, 0)
   pub unreached_in_second : gap_read (linked 0) written_into ≡ None

@@ -4,13 +4,14 @@
 ghost use Rattle.worked_examples.specs.Examples.{WorkedExamples};
 ghost use Rattle.worked_examples.specs.Fields.{Fields};
 ghost use Rattle.worked_examples.specs.Limits.{Limits};
+ghost use Rattle.worked_examples.specs.LineFields.{LineFields};
 ghost use Rattle.worked_examples.specs.Orders.{Orders};
 ghost use Rattle.worked_examples.specs.Parts.{Parts};
 ghost use Rattle.worked_examples.specs.SheetOrders.{SheetOrders};
 ghost use Rattle.worked_examples.specs.Sums.{Sums};
 ghost use Rattle.worked_examples.specs.Tampered.{Tampered};
 
-// Each of them comes out by computing.
+/// Each of them comes out by computing.
 pub fn worked_examples_hold()
     ensures rules { WorkedExamples }
     ensures limits { Limits }
@@ -19,5 +20,6 @@ pub fn worked_examples_hold()
     ensures fields { Fields }
     ensures orders { Orders }
     ensures sheet_orders { SheetOrders }
+    ensures line_fields { LineFields }
     ensures sums { Sums }
 {}

@@ -6,8 +6,14 @@ use Rattle.plate_c.proofs.write_cells.Goals as goal
 
 pub loop-number-preserved : goal.loop-number-preserved
 loop-number-preserved c =
+    let xs = c.args.spots.now in
+    let old = c.args.cells.now in
+    let i = c.loop-number.number in
     rw c.from.ensures
-    (written_more spot_cell c.args.spots.now c.args.cells.now _ c.loop-number.number _ (omega arith) (omega arith) c.loop-number.invariant)
+    (written_more spot_cell xs old _ i _ (omega arith) (omega arith) c.loop-number.invariant)
 
 pub returns : goal.returns
-returns c = c.loop-number.invariant ∙ written_over spot_cell c.args.spots.now c.args.cells.now _ (omega arith) c.requires
+returns c =
+    let xs = c.args.spots.now in
+    let old = c.args.cells.now in
+    c.loop-number.invariant ∙ written_over spot_cell xs old _ (omega arith) c.requires

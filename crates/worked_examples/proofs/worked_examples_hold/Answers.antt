@@ -4,7 +4,7 @@ use Rattle.std.specs.Fmt.{digits}
 use Rattle.gauges.specs.Rulers.{root, root_from}
 use Rattle.measuring.specs.Maps.{measured_map, reached_count, record_at, step_count}
 use Rattle.measuring.specs.Rankings.{best, first_ranked, is_ranked, next_below}
-use Rattle.measuring.specs.Readings.{least_sum, route_marks}
+use Rattle.measuring.specs.MapReadings.{least_sum, route_marks}
 use Rattle.measuring.specs.Ways.{way_within}
 use Rattle.sheets.specs.Reading.{edits_read}
 use Rattle.worked_examples.proofs.worked_examples_hold.Goals as goal
@@ -43,8 +43,11 @@ returns-clause-rules c = record {
   three_four_column = refl;
   three_four_corner = refl;
   refusal_numbers = refl;
-  refusal_layers = refl;
+  refusal_numbers_in_sheets = refl;
+  layers_by_plate = refl;
+  layers_by_sheet = refl;
   refusal_printed = refl;
+  setting_printed = refl;
   second_plate = refl;
   edit_too_soon = refl;
   long_before_order = refl;
@@ -54,10 +57,55 @@ returns-clause-rules c = record {
   sheet_fault_printed = refl;
 }
 
+pub returns-clause-limits : goal.returns-clause-limits
+unfolding measured_map record_at best first_ranked is_ranked next_below way_within
+returns-clause-limits c = record {
+  sides_256 = refl;
+  sides_1 = refl;
+  rows_257 = refl;
+  columns_257 = refl;
+  rows_0 = refl;
+  columns_0 = refl;
+  pad_64 = refl;
+  pad_65 = refl;
+  entries_of_6 = refl;
+  weight_0 = refl;
+  weight_64 = refl;
+  weight_65 = refl;
+  factor_0 = refl;
+  factor_1 = refl;
+  factor_16 = refl;
+  factor_17 = refl;
+  long_enough = refl;
+  one_shorter = refl;
+}
+
 pub returns-clause-parts : goal.returns-clause-parts
 returns-clause-parts c = record {
   last_cell = refl;
+  six_cells = refl;
+  six_asked = refl;
+  cell_set = refl;
+  cell_barred = refl;
+  wall_opened = refl;
+  enrolled_cells = refl;
   second_pad = refl;
+  pad_taken_out = refl;
+  set_groups = refl;
+  barred_groups = refl;
+  outdated_both = refl;
+  renewed_first = refl;
+  renewed_second = refl;
+  renewed_beside = refl;
+  renewed_again = refl;
+  standing_of_first = refl;
+  current_first = refl;
+  current_second = refl;
+  sum_of_four = refl;
+  sum_of_none = refl;
+  count_of_four = refl;
+  sum_before_second_row = refl;
+  sum_before_last = refl;
   byte_of_3 = refl;
   pad_65 = refl;
   bad_row = refl;
@@ -69,22 +117,6 @@ returns-clause-parts c = record {
   zero_alone = refl;
   greatest = refl;
   above = refl;
-}
-
-pub returns-clause-limits : goal.returns-clause-limits
-unfolding measured_map record_at best first_ranked is_ranked next_below way_within
-returns-clause-limits c = record {
-  rows_256 = refl;
-  rows_257 = refl;
-  columns_257 = refl;
-  pad_64 = refl;
-  pad_65 = refl;
-  weight_64 = refl;
-  weight_65 = refl;
-  factor_16 = refl;
-  factor_17 = refl;
-  long_enough = refl;
-  one_shorter = refl;
 }
 
 pub returns-clause-tampered : goal.returns-clause-tampered
@@ -164,26 +196,45 @@ returns-clause-fields c = record {
 pub returns-clause-orders : goal.returns-clause-orders
 unfolding way_within least_sum
 returns-clause-orders c = record {
+  open_no_rows = refl;
+  open_many_rows = refl;
+  open_no_columns = refl;
+  open_many_columns = refl;
   open_size_cells = refl;
   open_size_groups = refl;
-  open_tables = refl;
+  open_cells = refl;
+  open_groups = refl;
   open_fine = refl;
+  set_tables = refl;
+  set_off_row = refl;
+  set_off_column = refl;
+  set_pad = refl;
   set_tables_off = refl;
   set_tables_pad = refl;
   set_off_pad = refl;
   set_tables_off_pad = refl;
-  set_pad = refl;
   set_fine = refl;
+  set_bare = refl;
+  bar_tables = refl;
+  bar_off_row = refl;
+  bar_off_column = refl;
   bar_tables_off = refl;
-  bar_off = refl;
   bar_fine = refl;
+  enrol_tables = refl;
+  enrol_pad = refl;
+  enrol_no_pad = refl;
+  enrol_group = refl;
   enrol_tables_pad = refl;
   enrol_tables_no_pad = refl;
   enrol_tables_group = refl;
   enrol_pad_group = refl;
   enrol_no_pad_group = refl;
-  enrol_group = refl;
   enrol_fine = refl;
+  enrol_in_none = refl;
+  measure_cells = refl;
+  measure_groups = refl;
+  measure_map = refl;
+  measure_queue = refl;
   measure_cells_group = refl;
   measure_groups_group = refl;
   measure_map_group = refl;
@@ -192,15 +243,30 @@ returns-clause-orders c = record {
   measure_group = refl;
   measure_no_group = refl;
   measure_fine = refl;
+  readings_tables = refl;
+  readings_off_row = refl;
+  readings_off_column = refl;
+  readings_group = refl;
+  readings_no_group = refl;
+  readings_outdated = refl;
   readings_tables_off = refl;
   readings_tables_group = refl;
   readings_tables_outdated = refl;
   readings_off_group = refl;
+  readings_tables_no_group = refl;
+  readings_off_no_group = refl;
   readings_off_outdated = refl;
   readings_group_outdated = refl;
   readings_no_group_outdated = refl;
-  readings_outdated = refl;
   readings_fine = refl;
+  first_lacks = refl;
+  first_of_lacking_second = refl;
+  second_lacks = refl;
+  second_of_lacking_first = refl;
+  first_outdated = refl;
+  first_of_outdated_second = refl;
+  second_outdated = refl;
+  second_of_outdated_first = refl;
   way_tables_short = refl;
   way_off_short = refl;
   way_group_short = refl;
@@ -209,22 +275,40 @@ returns-clause-orders c = record {
   way_off_torn = refl;
   way_group_torn = refl;
   way_outdated_torn = refl;
+  way_torn = refl;
   way_torn_short = refl;
   way_short = refl;
-  gap_first_outdated = refl;
-  gap_second_outdated = refl;
+  gap_first = refl;
+  gap_second = refl;
   gap_outdated_first = refl;
   gap_outdated_second = refl;
+  gap_first_outdated = refl;
+  gap_second_outdated = refl;
+  gap_outdated_both = refl;
   gap_fine = refl;
+  route_first = refl;
+  route_second = refl;
+  route_marks = refl;
+  route_outdated_first = refl;
+  route_outdated_second = refl;
   route_first_outdated = refl;
   route_second_outdated = refl;
   route_marks_outdated = refl;
-  route_outdated_first = refl;
-  route_outdated_second = refl;
+  route_outdated_both = refl;
   route_fine = refl;
   seal_first = refl;
   seal_second = refl;
+  seal_neither = refl;
   seal_fine = refl;
+  break_fine = refl;
+  rectangle_row_setting = refl;
+  rectangle_column_setting = refl;
+  rectangle_row_figure = refl;
+  rectangle_column_figure = refl;
+  rectangle_both_setting = refl;
+  rectangle_both_figures = refl;
+  rectangle_all_figures = refl;
+  rectangle_column_fence = refl;
   rectangle_setting_fence = refl;
   rectangle_figure_fence = refl;
   rectangle_fence = refl;
@@ -271,6 +355,7 @@ returns-clause-sheet_orders c = record {
   figure_and_off = refl;
   figure_and_bar_off = refl;
   figure_and_pad = refl;
+  figure_and_group = refl;
   row_off_and_pad = refl;
   column_off_and_pad = refl;
   both_off = refl;
@@ -281,6 +366,19 @@ returns-clause-sheet_orders c = record {
   earlier_figure_goes_first = refl;
   earlier_line_before_no_end = refl;
   third_line = refl;
+}
+
+pub returns-clause-line_fields : goal.returns-clause-line_fields
+returns-clause-line_fields c = record {
+  word = refl;
+  figure = refl;
+  empty = refl;
+  none = refl;
+  of_no_byte = refl;
+  behind_none = refl;
+  three = refl;
+  place_254 = refl;
+  place_255 = refl;
 }
 
 pub returns-clause-sums : goal.returns-clause-sums
