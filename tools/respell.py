@@ -1,7 +1,10 @@
 #!/usr/bin/env python3
 """Brings the repository's own definitions and lemmas to today's spelling: words in snake case, types in camel case.
 
-usage: python3 tools/respell.py            at the top of the repository, once, after the toolchain's own script
+usage, at the top of the repository:
+    python3 tools/respell.py          says this and what it would change, and changes nothing
+    python3 tools/respell.py write    changes the files
+    python3 tools/respell.py --help   says this alone
 
 It collects the names with a hyphen that specs/ and proofs/ declare: definitions, lemmas, records and their fields, and of a
 file of answers the names that are not pub. It writes each anew wherever it stands in specs/, proofs/, src/ and the documents,
@@ -94,19 +97,35 @@ def respelled(path, text, turned):
     return "".join(part if is_prose else word.sub(lambda m: turned[m.group(1)], part) for part, is_prose in pieces(path, text))
 
 
-def main():
+def respell(is_to_write):
+    """Says each name with its new one, and each file that changes with them; writes the files only where it is told to."""
     texts = {p: read(p) for p in files()}
     turned, clashes = renaming(texts)
     if clashes:
         sys.exit("\n".join(clashes))
-    for path, text in texts.items():
-        to = respelled(path, text, turned) if turned else text
-        if to != text:
+    new_texts = {p: respelled(p, text, turned) if turned else text for p, text in texts.items()}
+    changed = [p for p in texts if new_texts[p] != texts[p]]
+    if is_to_write:
+        for path in changed:
             with open(path, "w", encoding="utf-8") as f:
-                f.write(to)
+                f.write(new_texts[path])
     print(f"{len(turned)} names")
     for name, to in turned.items():
         print(f"  {name} -> {to}")
+    print(f"{len(changed)} files {'changed' if is_to_write else 'would change'}")
+    for path in changed:
+        print(f"  {path}")
 
 
-main()
+def main():
+    words = sys.argv[1:]
+    if words in ([], ["-h"], ["--help"]):
+        print(__doc__)
+    elif words != ["write"]:
+        sys.exit(__doc__)
+    if words in ([], ["write"]):
+        respell(is_to_write=bool(words))
+
+
+if __name__ == "__main__":
+    main()

@@ -281,6 +281,7 @@ def survey_cases():
     return {
         "empty": "",
         "call_before_a_plate": rows("gap", "plate 2 2", "measure 1"),
+        "unknown_word_before_a_plate": rows("walk 0 0", "plate 2 2", "measure 1"),
         "largest_plate": square(256),
         "plate_of_4096_cells": square(64),
         "way_of_more_than_256_cells": snake(31, 20),
