@@ -13,7 +13,7 @@ pub mod seals;
 mod ways;
 
 pub use edit::Edit;
-pub use header::{Draft, Header, Sealed};
+pub use header::{Draft, Header, HeaderRef, Sealed};
 pub use readings::Readings;
 pub use refusal::Refusal;
 pub use seals::NotSealed;

@@ -10,7 +10,7 @@ ghost use Rattle.plate.specs.declared.header.Header.{Header};
 
 use crate::routes::Maps;
 use crate::ways::walk;
-use crate::{Draft, Header, Refusal, Sealed};
+use crate::{Draft, Header, HeaderRef, Refusal, Sealed};
 use board::{Group, MapRecord, known_pad};
 use gauges::Ruler;
 use lengths::Length;
@@ -102,8 +102,8 @@ pub trait Readings {
     ghost header: { Self → Header };
 
     /// The header, in whichever state the plate is.
-    fn header(&self) -> &Header
-        ensures { standing result.now ≡ standing (header self.now) };
+    fn header(&self) -> HeaderRef<'_>
+        ensures { standing result.header.now ≡ standing (header self.now) };
 
     /// A cell's length in one group's map, or none where it is unreached. Sent back: 2, 3, 5 and 6.
     final fn distance<K: Length>(
@@ -116,7 +116,8 @@ pub trait Readings {
         ensures { result ≡
             distance_answer K.kind (standing (header self.now)) map.now row column group }
     {
-        let number = self.header().map_index(map.len(), row, column, group)?;
+        let header = self.header().header;
+        let number = header.map_index(map.len(), row, column, group)?;
         Ok(distance_at::<K>(map, number))
     }
 
@@ -131,7 +132,8 @@ pub trait Readings {
         ensures { result ≡
             nearest_answer K.kind (standing (header self.now)) map.now row column group }
     {
-        let number = self.header().map_index(map.len(), row, column, group)?;
+        let header = self.header().header;
+        let number = header.map_index(map.len(), row, column, group)?;
         Ok(nearest_at::<K>(map, number))
     }
 
@@ -150,7 +152,7 @@ pub trait Readings {
             (length list.old))
             list.old list.new result }
     {
-        let header = self.header();
+        let header = self.header().header;
         let number = header.map_index(map.len(), row, column, group)?;
         walk::<K>(&map[0..header.size.area()], number as u16, list)
     }
@@ -165,7 +167,8 @@ pub trait Readings {
         ensures { result ≡ gap_answer R.Length.kind (R.ruling ruler.now).sum
             (standing (header self.now)) first.now second.now }
     {
-        Ok(self.header().both_maps(ruler, first, second)?.least_sum())
+        let header = self.header().header;
+        Ok(header.both_maps(ruler, first, second)?.least_sum())
     }
 
     /// Marks the cells whose two distances sum to the gap with 1 and the others with 0, and answers how many sum to it. Sent back: 2 and 6.
@@ -179,7 +182,7 @@ pub trait Readings {
         ensures { Routes R.Length.kind (R.ruling ruler.now).sum (standing (header self.now))
             first.now second.now marks.old marks.new result }
     {
-        let header = self.header();
+        let header = self.header().header;
         let area = header.size.area();
         if marks.len() < area {
             return Err(Refusal::Tables);
@@ -192,23 +195,31 @@ pub trait Readings {
 impl Readings for Header {
     ghost header = { λ header. header };
 
-    fn header(&self) -> &Header {
-        self
+    fn header(&self) -> HeaderRef<'_> {
+        HeaderRef { header: self }
+    }
+}
+
+impl Readings for HeaderRef<'_> {
+    ghost header = { λ lent. lent.header.now };
+
+    fn header(&self) -> HeaderRef<'_> {
+        *self
     }
 }
 
 impl Readings for Draft {
     ghost header = { λ draft. draft.header };
 
-    fn header(&self) -> &Header {
-        &self.header
+    fn header(&self) -> HeaderRef<'_> {
+        self.header.header()
     }
 }
 
 impl Readings for Sealed {
     ghost header = { λ sealed. sealed.header };
 
-    fn header(&self) -> &Header {
-        &self.header
+    fn header(&self) -> HeaderRef<'_> {
+        self.header.header()
     }
 }

@@ -4,7 +4,7 @@ ghost use Rattle.board.specs.Sizes.{area};
 ghost use Rattle.runs.specs.Plates.{header_of};
 
 use board::{Cell, MapRecord};
-use plate::{Draft, Header, Readings, Sealed};
+use plate::{Draft, HeaderRef, Readings, Sealed};
 use queue::Offer;
 
 /// An open plate in either state. A draft allows every call but break, and a sealed plate only the
@@ -18,7 +18,7 @@ pub enum Plate {
 impl Readings for Plate {
     ghost header = { header_of };
 
-    fn header(&self) -> &Header {
+    fn header(&self) -> HeaderRef<'_> {
         match self {
             Plate::Draft(draft) => draft.header(),
             Plate::Sealed(sealed) => sealed.header(),
