@@ -109,6 +109,10 @@ module _ {E : Type 0} {le : E → E → Bool} (laws : OrderLaws le) where
           grind (arith, written);
     }
 
+    -- what comes after the child that moved up may fill the hole below it
+    pub above_down : (x : E) → le v x ≡ true → Above le (set xs h v) k x
+    above_down x less d pos = grind (arith, written)
+
   -- the first of a heap is at most every entry
   root_least : (xs : List E) → Heap le xs → (bound i : ℕ) (d : E) → i ≤ bound → i < length xs → le (get_or xs 0 d) (get_or xs i d) ≡ true
   root_least xs heap zero i d small lt =

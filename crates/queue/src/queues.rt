@@ -5,12 +5,28 @@ ghost use Rattle.queue.specs.Heaps.{Heap};
 use crate::{Order, replace_first, sift_up};
 use std::marker::PhantomData;
 
+// Names the order and holds nothing of it, so that a queue goes to another thread, and is shared, whatever its order's type is.
+#[derive(Drop)]
+struct ByOrder<O> {
+    order: PhantomData<O>,
+}
+
+unsafe impl<O> Send for ByOrder<O> {}
+
+unsafe impl<O> Sync for ByOrder<O> {}
+
+impl<O> ByOrder<O> {
+    fn new() -> ByOrder<O> {
+        ByOrder { order: PhantomData }
+    }
+}
+
 /// A priority queue in the front part of a lent slice, which is a heap. It takes no memory of its own, so the part's length stands beside it.
 #[derive(Drop)]
 pub struct Queue<'a, E, O: Order<Entry = E>> {
     entries: &'a mut [E],
     len: usize,
-    order: PhantomData<O>,
+    order: ByOrder<O>,
     ghost within: { len ≤ length entries.now },
     ghost ordered: { Heap O.le (take len entries.now) },
 }
@@ -26,7 +42,7 @@ impl<'a, E: Copy, O: Order<Entry = E>> Queue<'a, E, O> {
         Queue {
             entries,
             len: 0,
-            order: PhantomData,
+            order: ByOrder::new(),
         }
     }
 
@@ -40,7 +56,7 @@ impl<'a, E: Copy, O: Order<Entry = E>> Queue<'a, E, O> {
         Queue {
             entries,
             len,
-            order: PhantomData,
+            order: ByOrder::new(),
         }
     }
 

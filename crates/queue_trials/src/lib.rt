@@ -2,7 +2,7 @@
 #![tactic(auto)]
 
 use lengths::{Counted, CountedRow, Length, Whole};
-use queue::{ByLength, Offer, OfferQueue, Order};
+use queue::{ByLength, Offer, OfferQueue, Order, Queue};
 
 /// How many offers a trial makes.
 pub const OFFERS: usize = 300;
@@ -59,6 +59,15 @@ fn pop_all<'q, K: Length>(queue: &mut OfferQueue<'q, K>) -> Drained {
         last = Some(offer);
     }
     drained
+}
+
+fn is_sent_and_shared<T: Send + Sync>(value: &T) {}
+
+/// A queue goes to another thread, and is shared, where its entries are, whatever its order's type is. The compiler is what tests this.
+pub fn queues_are_sent_and_shared<E: Copy + Send + Sync, O: Order<Entry = E>>(
+    queue: &Queue<'_, E, O>,
+) {
+    is_sent_and_shared(queue);
 }
 
 /// The sum of the cell numbers, from 0 to 255, of so many first offers.
