@@ -1,14 +1,18 @@
 -- Either layer over a lawful gauge is lawful, and over a lawful ruler a lawful ruler. Assumes nothing.
-use Rattle.std.specs.Prelude.{◌≡◌, ℕ, zero, suc, true, ◌||◌, List, [], ◌∷◌, refl}
-use Rattle.std.proofs.Common.{sym, ap, ◌∙◌, ⊎_elim}
+use Rattle.std.specs.Prelude.{◌≡◌, ℕ, zero, suc, ◌+◌, ◌<◌, Bool, true, false, cond, ◌||◌, List, [], ◌∷◌, length, drop, Some, None, slice_index_or, refl}
+use Rattle.std.proofs.Common.{sym, ap, ◌∙◌, ⊎_elim, add-one, arith}
 use Rattle.std.proofs.Math.Bool.{or_comm}
+use Rattle.std.proofs.lemmas.List.{drop_more}
 use Rattle.std.proofs.lemmas.Bool.{or_parts}
 use Rattle.lengths.specs.Kinds.{Kind, KindLaws}
 use Rattle.gauges.specs.Steps.{reversed}
-use Rattle.gauges.specs.Meanings.{Crossing, Lawful, Ruling, RulerLaws, ByAdding}
-use Rattle.gauges.specs.Layers.{times, weighted_crossing, weighted_ruling, inside, fenced, fenced_crossing, fenced_ruling}
+use Rattle.gauges.specs.Meanings.{Crossing, Lawful, Ruling, RulerLaws, ByAdding, crossed}
+use Rattle.gauges.specs.Layers.{times, weighted_crossing, weighted_ruling, inside, touches, fenced, fenced_crossing, fenced_ruling}
 use Rattle.gauges.specs.declared.rectangle.Rectangle.{Rectangle}
 use Rattle.gauges.specs.declared.step.Step.{Step}
+
+pub times_more : {L : Type 0} (n : ℕ) (f : L → L) (a : L) → times (n + 1) f a ≡ f (times n f a)
+times_more n f a = rw add-one
 
 module _ {L R : Type 0} {kind : Kind L R} (laws : KindLaws kind) where
   same_is_at_most : (a : L) → kind.le a a ≡ true
@@ -94,3 +98,33 @@ fenced_adds fs r g below = record {
   barred = λ s genuine. ap (λ b. fenced fs s || b) (below.barred s genuine);
   carried = λ s genuine unbarred. below.carried s genuine (or_parts _ _ unbarred).1;
 }
+
+-- one rectangle of a list and those after it decide what the list decides from there on
+pub fenced_next : (fs : List Rectangle) (i : ℕ) (f : Rectangle) (s : Step) (b : Bool) →
+    b ≡ touches (slice_index_or fs i f) s → i < length fs →
+    (b || fenced (drop (i + 1) fs) s) ≡ fenced (drop i fs) s
+fenced_next fs i f s b is within =
+    ap (λ x. x || fenced (drop (i + 1) fs) s) is
+    ∙ sym (ap (λ l. fenced l s) (drop_more fs i f within))
+
+-- what a gauge answers where it carries
+crossed_some : {L : Type 0} (b : Bool) (x y : L) → cond b None (Some x) ≡ Some y →
+    (b ≡ false) × (y ≡ x)
+crossed_some true x y e = let z : ◌≡◌ {A = ℕ} 0 1 = cc in absurd (omega arith)
+crossed_some false x y e = (refl, cc)
+
+module _ {L : Type 0} (g : Crossing L) (s : Step) (a x : L) (n : ℕ)
+    (so_far : x ≡ times n (g.carried s) a) where
+  -- carried once more
+  pub weighted_again : (y : L) → crossed g s x ≡ Some y →
+      (y ≡ times (n + 1) (g.carried s) a) × (0 < n + 1 → g.barred s ≡ false)
+  weighted_again y answer =
+      let here = crossed_some (g.barred s) (g.carried s x) y answer in
+      (here.1 ∙ ap (g.carried s) so_far ∙ sym (times_more n (g.carried s) a), λ _. here.0)
+
+  -- carried often enough
+  pub weighted_done : (k : ℕ) → n ≡ k → g.barred s ≡ false →
+      Some x ≡ crossed (weighted_crossing k g) s a
+  weighted_done k all unbarred =
+      ap Some (so_far ∙ ap (λ m. times m (g.carried s) a) all)
+      ∙ sym (ap (λ b. cond b None (Some (times k (g.carried s) a))) unbarred)
