@@ -75,7 +75,7 @@ fn with_digit(value: u16, digit: u8) -> Option<u16>
     ensures { result ≡ figure_on value digit }
 {
     match digit {
-        b'0'..=b'9' => value.checked_mul(10)?.checked_add(u16::from(digit - b'0')),
+        b'0'..=b'9' => u16::try_from(u32::from(value) * 10 + u32::from(digit - b'0')).ok(),
         _ => None,
     }
 }
