@@ -11,9 +11,9 @@ use ending::{Stop, finish, read_input};
 use gauges::{Chessboard, WholeRuler};
 use lengths::Whole;
 use measuring::ENTRIES_PER_CELL;
-use output::{print_answer, print_call};
+use output::AnswerLine;
 use queue::Offer;
-use runs::{Answer, RulerCall, Space, Tables, run_by_ruler};
+use runs::{Answer, Call, RulerCall, Space, Tables, run_by_ruler};
 use script::Script;
 use std::io;
 
@@ -22,14 +22,22 @@ const CELLS: usize = 65536;
 
 fn print_run(rt: &impl Print, calls: &[RulerCall], answers: &[Answer<Whole>]) -> io::Result<()> {
     for (call, answer) in calls.iter().zip(answers) {
-        print_call(rt, *call)?;
-        print_answer(rt, *call, answer)?;
-        println!(rt; "")?;
+        let line = AnswerLine {
+            call: *call,
+            answer,
+        };
+        println!(rt; "{line}")?;
     }
     Ok(())
 }
 
-// Makes the calls on the plate, over tables of their own.
+// Whether a call measures or goes by what was measured, as every call does that is no edit.
+fn needs_maps(call: &RulerCall) -> bool {
+    !matches!(call, RulerCall::Plain(Call::Edit(_)))
+}
+
+// Makes the calls on the plate, over tables of their own. Edits alone get maps and a queue without entries: a sheet at fault takes no
+// more memory than its cells.
 fn run_script(rt: &(impl Print + AllocGlobal), script: &Script) -> Result<(), Stop> {
     let Some(dimensions) = script.dimensions else {
         return Ok(());
@@ -37,9 +45,14 @@ fn run_script(rt: &(impl Print + AllocGlobal), script: &Script) -> Result<(), St
     let heap = rt.alloc();
     let mut cells = vec![in heap; Cell::BARE; CELLS]?;
     let mut groups = [0u8; PADS];
-    let mut first = vec![in heap; MapRecord::unreached(0); CELLS]?;
-    let mut second = vec![in heap; MapRecord::unreached(0); CELLS]?;
-    let mut entries = vec![in heap; Offer { length: 0, cell: 0 }; ENTRIES_PER_CELL * CELLS]?;
+    let measured = if script.calls.iter().any(needs_maps) {
+        CELLS
+    } else {
+        0
+    };
+    let mut first = vec![in heap; MapRecord::unreached(0); measured]?;
+    let mut second = vec![in heap; MapRecord::unreached(0); measured]?;
+    let mut entries = vec![in heap; Offer { length: 0, cell: 0 }; ENTRIES_PER_CELL * measured]?;
     let tables = Tables {
         cells: &mut cells,
         groups: &mut groups,

@@ -2,44 +2,58 @@
 use lengths::Whole;
 use plate::Edit;
 use runs::{Answer, Call, RulerCall};
-use std::io;
+use std::fmt;
 
-/// The word of a call and its figures.
-pub fn print_call(rt: &impl Print, call: RulerCall) -> io::Result<()> {
-    match call {
-        RulerCall::Gap => print!(rt; "gap"),
-        RulerCall::Route { .. } => print!(rt; "route"),
-        RulerCall::Plain(call) => print_plain(rt, call),
+/// A call with its answer. It displays as one line without its end, so that each line is printed at once.
+#[derive(Drop)]
+pub struct AnswerLine<'a> {
+    pub call: RulerCall,
+    pub answer: &'a Answer<Whole>,
+}
+
+impl fmt::Display for AnswerLine<'_> {
+    fn fmt<W: fmt::Write>(&self, f: &mut fmt::Formatter<W>) -> fmt::Result {
+        write_call(f, self.call)?;
+        write_answer(f, self.call, self.answer)
     }
 }
 
-fn print_plain(rt: &impl Print, call: Call) -> io::Result<()> {
+// The word of a call and its figures.
+fn write_call<W: fmt::Write>(f: &mut fmt::Formatter<W>, call: RulerCall) -> fmt::Result {
     match call {
-        Call::Edit(edit) => print_edit(rt, edit),
-        Call::Measure { group } => print!(rt; "measure\t{group}"),
-        Call::Distance { row, column, group } => print!(rt; "distance\t{row}\t{column}\t{group}"),
-        Call::Nearest { row, column, group } => print!(rt; "nearest\t{row}\t{column}\t{group}"),
+        RulerCall::Gap => write!(f, "gap"),
+        RulerCall::Route { .. } => write!(f, "route"),
+        RulerCall::Plain(call) => write_plain(f, call),
+    }
+}
+
+fn write_plain<W: fmt::Write>(f: &mut fmt::Formatter<W>, call: Call) -> fmt::Result {
+    match call {
+        Call::Edit(edit) => write_edit(f, edit),
+        Call::Measure { group } => write!(f, "measure\t{group}"),
+        Call::Distance { row, column, group } => write!(f, "distance\t{row}\t{column}\t{group}"),
+        Call::Nearest { row, column, group } => write!(f, "nearest\t{row}\t{column}\t{group}"),
         Call::Way {
             row,
             column,
             group,
             ..
-        } => print!(rt; "way\t{row}\t{column}\t{group}"),
-        Call::Seal => print!(rt; "seal"),
-        Call::Break => print!(rt; "break"),
+        } => write!(f, "way\t{row}\t{column}\t{group}"),
+        Call::Seal => write!(f, "seal"),
+        Call::Break => write!(f, "break"),
     }
 }
 
-fn print_edit(rt: &impl Print, edit: Edit) -> io::Result<()> {
+fn write_edit<W: fmt::Write>(f: &mut fmt::Formatter<W>, edit: Edit) -> fmt::Result {
     match edit {
         Edit::Set {
             row,
             column,
             height,
             pad,
-        } => print!(rt; "cell\t{row}\t{column}\t{height}\t{pad}"),
-        Edit::Bar { row, column } => print!(rt; "bar\t{row}\t{column}"),
-        Edit::Enrol { pad, group } => print!(rt; "enrol\t{pad}\t{group}"),
+        } => write!(f, "cell\t{row}\t{column}\t{height}\t{pad}"),
+        Edit::Bar { row, column } => write!(f, "bar\t{row}\t{column}"),
+        Edit::Enrol { pad, group } => write!(f, "enrol\t{pad}\t{group}"),
     }
 }
 
@@ -55,40 +69,48 @@ fn done(call: RulerCall) -> &'static str {
     }
 }
 
-/// The answer, behind the call.
-pub fn print_answer(rt: &impl Print, call: RulerCall, answer: &Answer<Whole>) -> io::Result<()> {
+// The answer, behind the call.
+fn write_answer<W: fmt::Write>(
+    f: &mut fmt::Formatter<W>,
+    call: RulerCall,
+    answer: &Answer<Whole>,
+) -> fmt::Result {
     match answer {
-        Answer::Done => print!(rt; "\t{}", done(call)),
+        Answer::Done => write!(f, "\t{}", done(call)),
         Answer::Measured(counts) => {
-            print!(rt; "\treached\t{}\tsteps\t{}", counts.reached, counts.steps)
+            write!(f, "\treached\t{}\tsteps\t{}", counts.reached, counts.steps)
         }
-        Answer::Distance(Some(length)) => print!(rt; "\t{}", length.units),
-        Answer::Nearest(Some(pad)) => print!(rt; "\t{pad}"),
-        Answer::Distance(None) | Answer::Nearest(None) => print!(rt; "\tunreached"),
-        Answer::Gap(Some(length)) => print!(rt; "\t{}", length.units),
-        Answer::Gap(None) => print!(rt; "\tnone"),
-        Answer::Way(cells) => print_way(rt, cells),
-        Answer::Route { marks, count } => print_route(rt, marks, *count),
-        Answer::Refused(refusal) => print!(rt; "\trefused\t{}", refusal.number()),
-        Answer::NotAllowed => print!(rt; "\tnot allowed"),
+        Answer::Distance(Some(length)) => write!(f, "\t{}", length.units),
+        Answer::Nearest(Some(pad)) => write!(f, "\t{pad}"),
+        Answer::Distance(None) | Answer::Nearest(None) => write!(f, "\tunreached"),
+        Answer::Gap(Some(length)) => write!(f, "\t{}", length.units),
+        Answer::Gap(None) => write!(f, "\tnone"),
+        Answer::Way(cells) => write_way(f, cells),
+        Answer::Route { marks, count } => write_route(f, marks, *count),
+        Answer::Refused(refusal) => write!(f, "\trefused\t{}", refusal.number()),
+        Answer::NotAllowed => write!(f, "\tnot allowed"),
     }
 }
 
 // How many cells a way has, and their numbers.
-fn print_way(rt: &impl Print, cells: &[u16]) -> io::Result<()> {
-    print!(rt; "\t{}", cells.len())?;
+fn write_way<W: fmt::Write>(f: &mut fmt::Formatter<W>, cells: &[u16]) -> fmt::Result {
+    write!(f, "\t{}", cells.len())?;
     for cell in cells {
-        print!(rt; "\t{cell}")?;
+        write!(f, "\t{cell}")?;
     }
     Ok(())
 }
 
 // How many cells are marked, and their numbers.
-fn print_route(rt: &impl Print, marks: &[u8], count: usize) -> io::Result<()> {
-    print!(rt; "\t{count}")?;
+fn write_route<W: fmt::Write>(
+    f: &mut fmt::Formatter<W>,
+    marks: &[u8],
+    count: usize,
+) -> fmt::Result {
+    write!(f, "\t{count}")?;
     for (cell, mark) in marks.iter().enumerate() {
         if *mark == 1 {
-            print!(rt; "\t{cell}")?;
+            write!(f, "\t{cell}")?;
         }
     }
     Ok(())
