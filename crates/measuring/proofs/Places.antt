@@ -14,7 +14,7 @@ use Rattle.measuring.specs.Boards.{Board, cell, open_neighbour, open_neighbours,
 use Rattle.measuring.specs.Paths.{Measuring, measuring}
 use Rattle.measuring.specs.Rankings.{Bid, offer, offered}
 use Rattle.measuring.specs.Sums.{before}
-use Rattle.measuring.specs.Tracking.{Beside, View, Walked, across, raised, counted_before, offered_before, offerer, updated}
+use Rattle.measuring.specs.Tracking.{Beside, Tracks, View, Walked, across, raised, counted_before, offered_before, offerer, updated}
 use Rattle.measuring.specs.declared.offers.Offerer.{Offerer}
 use Rattle.measuring.proofs.Before.{before_all, before_none, before_not_here, before_other, before_then, sum_before_all, sum_before_more, sum_before_none, sum_before_skips}
 use Rattle.measuring.proofs.Tracks.{tracks_same}
@@ -25,17 +25,17 @@ Skips b i row column row' column' =
     (j : ℕ) → j < area b.size →
     (before b.size row column j ≡ before b.size row' column' j) ⊎ (open_neighbour b i j ≡ false)
 
-counted_skips : (b : Board) (i row column row' column' : ℕ) → Skips b i row column row' column' →
+pub counted_skips : (b : Board) (i row column row' column' : ℕ) → Skips b i row column row' column' →
     counted_before b i row column ≡ counted_before b i row' column'
 counted_skips b i row column row' column' skips =
     sum_before_skips (λ j. cond (open_neighbour b i j) 1 0) b.size row column row' column'
     (λ j lt. ⊎_elim inl (λ isnt. inr (ap (λ t. cond t 1 0) isnt)) (skips j lt))
 
 module _ {L R : Type 0} (m : Measuring L R) (x : Bid L) (view : ℕ → View L) where
-  no_offer : (j : ℕ) → open_neighbour m.board x.cell j ≡ false → offer m x j ≡ None
+  pub no_offer : (j : ℕ) → open_neighbour m.board x.cell j ≡ false → offer m x j ≡ None
   no_offer j isnt = ap (offered x j) (cond-false _ _ _ isnt)
 
-  offered_skips : (row column row' column' : ℕ) → Skips m.board x.cell row column row' column' →
+  pub offered_skips : (row column row' column' : ℕ) → Skips m.board x.cell row column row' column' →
       (j : ℕ) → j < area m.board.size →
       offered_before m x view row column j ≡ offered_before m x view row' column' j
   offered_skips row column row' column' skips j lt =
@@ -46,6 +46,14 @@ module _ {L R : Type 0} (m : Measuring L R) (x : Bid L) (view : ℕ → View L) 
       let stays : (t : Bool) → cond t (raised m.kind (view j) (offer m x j)) (view j) ≡ view j = λ t. cond_both t _ _ (λ v. v ≡ view j) (λ _. same) (λ _. refl) in
       stays _ ∙ sym (stays _))
       (skips j lt)
+
+pub skipped_tracked : {L R : Type 0} {kind : Kind L R} {map : List (MapRecord R)} {es : List (Offer R)}
+    (g : Crossing L) (b : Board) (group : ℕ) (x : Bid L) (view : ℕ → View L)
+    (row column row' column' : ℕ) → Skips b x.cell row column row' column' →
+    Tracks kind (area b.size) (offered_before (measuring kind g b group) x view row column) map es →
+    Tracks kind (area b.size) (offered_before (measuring kind g b group) x view row' column') map es
+skipped_tracked {kind = kind} g b group x view row column row' column' skips t =
+    tracks_same (offered_skips (measuring kind g b group) x view row column row' column' skips) t
 
 module _ {L R : Type 0} {m : Measuring L R} {from : Offerer L} {row column : ℕ}
     {map : List (MapRecord R)} {es : List (Offer R)} where
@@ -147,6 +155,16 @@ module _ (b : Board) (i row column : ℕ) (within : column < b.size.columns) whe
       (λ p. grind (arith, nat_tests))
       (cases_eq (i / b.size.columns) row))
       (cases_eq beside i)
+
+  pub itself_closed : row ≡ i / b.size.columns → column ≡ i % b.size.columns →
+      open_neighbour b i beside ≡ false
+  itself_closed same_row same-column =
+      let q = div-mul-add row b.size.columns column within in
+      let r = mod-mul-add row b.size.columns column within in
+      grind (arith, nat_tests)
+
+  pub barred_closed : (cell b beside).barred ≡ true → open_neighbour b i beside ≡ false
+  barred_closed barred = grind (arith, nat_tests)
 
   pub beside_is : (at : Point) (x : Cell) (passed : Bool) → at ≡ point b i → cell b beside ≡ x →
       Beside at row column → beside < area b.size → passed ≡ (eqb beside i || x.barred) →
