@@ -31,13 +31,13 @@ fn print_run(rt: &impl Print, calls: &[RulerCall], answers: &[Answer<Whole>]) ->
     Ok(())
 }
 
-// Whether a call measures or goes by what was measured, as every call does that is no edit.
+// Whether a call may go by the maps: any that is no edit.
 fn needs_maps(call: &RulerCall) -> bool {
     !matches!(call, RulerCall::Plain(Call::Edit(_)))
 }
 
-// Makes the calls on the plate, over tables of their own. Edits alone get maps and a queue without entries: a sheet at fault takes no
-// more memory than its cells.
+// Makes the calls on the plate, over tables of their own. Edits alone get maps and a queue without entries, so a sheet at fault takes no
+// more memory than its cells, its edits and their answers.
 fn run_script(rt: &(impl Print + AllocGlobal), script: &Script) -> Result<(), Stop> {
     let Some(dimensions) = script.dimensions else {
         return Ok(());
