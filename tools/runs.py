@@ -2,7 +2,8 @@
 
     python3 tools/runs.py examples
 
-In the runs of failed_reads memory runs out while the input is read, and nothing is printed.
+In the runs of failed_reads memory runs out while the input is read, and nothing is printed. In those of faulty_sheets it
+runs out at the sixth allocation, which a sheet at fault after one edit does not come to, since no map is taken for it.
 
 Nothing of the library is used: the answers are worked out here from the rules alone, by chessboard.
 """
@@ -310,6 +311,7 @@ def main():
     write(folder / "runs" / "survey", of_survey, survey)
     write(folder / "failed_reads" / "gap", {"second_part": of_gap["largest_plate"]}, lambda _: "")
     write(folder / "failed_reads" / "survey", {"second_part": of_survey["more_than_45_calls"]}, lambda _: "")
+    write(folder / "faulty_sheets" / "survey", {"fault_after_an_edit": rows("plate 1 1", "bar 0 0", "")}, survey)
 
 
 main()
